@@ -80,7 +80,7 @@ narrow_rows : (rows : List Row) → AreNarrow (length rows) (faults_of rows)
 narrow_rows [] = record { few = omega arith; narrow = All-nil IsNarrow }
 narrow_rows (row ∷ rows) = narrow_cons (fault_of row) (length rows) (faults_of rows) (narrow_row row) (narrow_rows rows)
 
--- a row that breaks no rule stands behind few
+-- a row that breaks no rule stands after few
 few_before : (before : List Row) (fault : Result Fault FileKind) → strike_rule before fault ≡ None → length before < MOST_FAULTS
 few_before before (Err kind) is = cc is
 few_before before (Ok fault) is = by_same (list_any (strikes_same fault) (faults_of before)) is

@@ -243,7 +243,7 @@ fn an_output_that_fails(rt: HostRuntime) -> Result<(), Fail> {
     Ok(())
 }
 
-// Where a row is not taken, the lines of its position are written, and nothing behind them.
+// Where a row is not taken, the lines of its position are written, and nothing after them.
 fn stops_at_each_row<R: Threads + Sync + AllocGlobal>(rt: &R) -> Result<bool, AllocError> {
     for rows in 0usize..5 {
         let failing = Devices {

@@ -11,7 +11,7 @@ use std::alloc::AllocError;
 use std::test::Fail;
 use std::thread::Threads;
 
-// The first rows of the log of `ADD`, and what its run still writes behind them.
+// The first rows of the log of `ADD`, and what its run still writes after them.
 const FIRST_FIVE: &str =
     "0 7 ; 0 ; ;\n1 7 ; 0 ; 0 0 ;\n2 7 ; 0 0 ; ;\n3 7 ; 0 ; 0 0 ;\n4 7 ; 0 0 ; ; 0 3\n";
 
@@ -182,7 +182,7 @@ static REFUSED_LOGS: [Case<'static>; 19] = [
     },
 ];
 
-// Behind the log of the whole run, a position behind the end.
+// After the log of the whole run, a position after the end.
 static BEHIND: Case<'static> = Case {
     error: "gprs: input t.txt kind 8 row 12\n",
     ..FIT
@@ -282,7 +282,7 @@ fn writes_rest<R: Threads + Sync + AllocGlobal>(
     is_told
 }
 
-// The run of `MEETING`, stopped behind any of its rows, goes on with the pieces of the text that were not written.
+// The run of `MEETING`, stopped after any of its rows, goes on with the pieces of the text that were not written.
 fn writes_each_rest<R: Threads + Sync + AllocGlobal>(rt: &R) -> Result<bool, AllocError> {
     for rows in 0usize..6 {
         if !writes_rest(rt, &MEETS, rows, &MET[rows..])? {

@@ -5,7 +5,7 @@ use crate::cases::{Case, RUN};
 use std::alloc::{AllocError, Global};
 use std::thread::Threads;
 
-/// A case whose words are those behind the command, over a program with empty files beside it.
+/// A case whose words are those after the command, over a program with empty files beside it.
 pub const ALONE: Case<'static> = Case {
     words: "p.gp",
     ..RUN
@@ -14,7 +14,7 @@ pub const ALONE: Case<'static> = Case {
 /// The same for a case that is made while a test runs.
 pub static BARE: Case<'static> = ALONE;
 
-/// A run: its case, whose words are those behind the command, what is told up to the restarts, these, and how many
+/// A run: its case, whose words are those after the command, what is told up to the restarts, these, and how many
 /// subthreads there were, restarts, subthreads that were redone, and faults that struck nothing.
 #[derive(Clone, Copy)]
 pub struct Run<'a> {

@@ -297,7 +297,7 @@ pub fn asked_in(
     }))
 }
 
-/// What words ask for that stand behind the word of a command, or none where it does not take them. The first word is
+/// What words ask for that stand after the word of a command, or none where it does not take them. The first word is
 /// any that stands for the command, and `waits` tells whether lasting workers are a crew of it. The error is that
 /// memory is out.
 pub fn asked_of(

@@ -24,7 +24,7 @@ fn at(numbers: &[u32], place: usize) -> u32 {
     }
 }
 
-// Puts a number at a place, behind so many zeros as are wanted.
+// Puts a number at a place, after so many zeros as are wanted.
 fn put(numbers: &mut Vec<u32>, place: usize, number: u32) -> Result<(), AllocError> {
     let missing = place.saturating_add(1).saturating_sub(numbers.len());
     for _ in 0..missing {

@@ -76,7 +76,7 @@ fn push_naming(
     }
 }
 
-// A text on a file that could not be read, with these hints behind it.
+// A text on a file that could not be read, with these hints after it.
 fn with_hints(alloc: Global, file: &Name, hints: &[u8]) -> Result<Vec<u8>, AllocError>
     ensures { IfOk result (λ told. IsHint told.items) }
 {

@@ -7,7 +7,7 @@ use run_views::push_between;
 use std::alloc::{AllocError, Global};
 use text_places::push_shown;
 
-// What stands behind an option: a name, a number up to this one, or a crew.
+// What stands after an option: a name, a number up to this one, or a crew.
 #[derive(Clone, Copy)]
 enum Value {
     Name,
@@ -166,7 +166,7 @@ fn is_option(word: &[u8]) -> bool {
     word.len() > 1 && word[0] == b'-'
 }
 
-// The name of an option, and the value that stands behind it in one word.
+// The name of an option, and the value that stands after it in one word.
 fn split_value(word: &[u8]) -> (&[u8], Option<&[u8]>) {
     match word.iter().position(|byte| *byte == b'=') {
         Some(at) => (&word[..at], word.get(at.saturating_add(1)..)),
@@ -228,7 +228,7 @@ impl Read {
         Ok(None)
     }
 
-    // What is missing behind the last word.
+    // What is missing after the last word.
     fn missing<'a>(&self) -> Option<Untaken<'a>> {
         match self.waiting {
             Some(option) => Some(Untaken::NoValue(option.name)),
@@ -241,7 +241,7 @@ impl Read {
     }
 }
 
-// The first of the words behind `explain` that is not taken, or what they lack.
+// The first of the words after `explain` that is not taken, or what they lack.
 fn first_untaken<'a>(
     alloc: Global,
     words: &'a [String],

@@ -15,7 +15,7 @@ module _ {A : Type 0} (text : A → List ℕ) (fits : A → Type 0) (ends : List
   NoFront bytes = (value : A) (rest : List ℕ) → fits value → ends rest → bytes ≢ text value ++ rest
 
 module _ {A : Type 0} (text : A → List ℕ) (fits : A → Type 0) (ends : List ℕ → Type 0) (word : List ℕ) where
-  -- ---- behind a word
+  -- ---- after a word
 
   abbrev pub behind : A → List ℕ
   behind value = word ++ text value

@@ -1,7 +1,7 @@
 -- The bytes of a log come to one thing, and to something.
 --
--- Each answer says of some rows that they stand at the front of the bytes and fit, and that no row that fits stands behind them
--- (`Settled`). Such rows are found in one way only (`same-rows`), and what stands behind them tells which answer it is.
+-- Each answer says of some rows that they stand at the front of the bytes and fit, and that no row that fits stands after them
+-- (`Settled`). Such rows are found in one way only (`same-rows`), and what stands after them tells which answer it is.
 use Rattle.std.proofs.Common.{◌≡◌, ◌⊎◌, inl, inr, ◌<◌, ◌≤◌, ◌+◌, ℕ, zero, suc, List, [], ◌∷◌, ◌++◌, length, refl, sym, ap, subst, ◌∙◌, arith, append_assoc, append-nil}
 use Rattle.std.specs.Prelude.{All}
 use Rattle.std.proofs.lemmas.List.Elements.{All-head, All-tail}
@@ -22,11 +22,11 @@ no-line : (bytes : List ℕ) → Choice (EndsNoLine bytes)
 no-line bytes = elim (contains 10 bytes) [ inl some ↦ inr (λ none. none some) | inr none ↦ inl none ]
 
 module _ (program : Program) (inputs : Inputs) (limits : Limits) where
-  -- no row that fits stands behind the rows
+  -- no row that fits stands after the rows
   abbrev Stops : List Retirement → (rest : List ℕ) → Type 0
   Stops rows rest = (r : Retirement) (later : List ℕ) → IsWideRow r → rest ≡ row_text r ++ later → Fit program inputs limits (rows ++ r ∷ []) → ⊥
 
-  -- a row behind the rows is one of those that fit
+  -- a row after the rows is one of those that fit
   goes-on : (front : List Retirement) (rest later : List ℕ) (r : Retirement) (more : List Retirement) → Stops (front ++ []) rest → All IsWideRow (r ∷ more)
       → Fit program inputs limits (front ++ r ∷ more) → rest ≡ log_text (r ∷ more) ++ later → ⊥
   goes-on front rest later r more stops wide fit is =
@@ -54,7 +54,7 @@ module _ (program : Program) (inputs : Inputs) (limits : Limits) where
 
   -- ---- answers
 
-  -- what stands behind the rows, by the answer
+  -- what stands after the rows, by the answer
   abbrev Settles : LogAnswer → List Retirement → (rest : List ℕ) → Type 0
   Settles (Rows all) rows rest = (all ≡ rows) × EndsNoLine rest
   Settles (Broken n) rows rest = (n ≡ length rows + 1) × (EndsNoLine rest → ⊥) × (BeginsWithRow rest → ⊥)

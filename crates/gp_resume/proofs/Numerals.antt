@@ -30,7 +30,7 @@ wide-fits n l = record { sfits = wide-mag n l }
 pub kept : (n : ℤ) → IsWide n → to_z w64 (of_z w64 n) ≡ n
 kept n l = to_z-of_z w64 n (wide-fits n l)
 
--- what goes on behind a byte
+-- what goes on after a byte
 pub goes-on-digit : (front rest : List ℕ) → 0 < length front → goes_on front rest ≡ begins_with_digit rest
 goes-on-digit front [] some = refl
 goes-on-digit [] (c ∷ rest) some = absurd (omega (arith, some))

@@ -30,7 +30,7 @@ below-is n m is = go (nat_cmp n m) refl is
     go Equal e is = absurd (false≢true is)
     go Greater e is = absurd (false≢true is)
 
--- those behind the first rise too
+-- those after the first rise too
 rise-on : (cell : ℤ × ℤ) (cells : List (ℤ × ℤ)) → RiseTo (cell ∷ cells) (length (cell ∷ cells)) → RiseTo cells (length cells)
 rise-on cell cells rises k less = let next : suc k + 1 ≡ suc (k + 1) = omega arith in rw next at (rises (suc k) (omega arith))
 

@@ -1,4 +1,4 @@
-// Numbers and cells, each behind a space.
+// Numbers and cells, each after a space.
 
 ghost use Rattle.std.specs.Prelude.{flat_map, All, IfOk, option_map};
 ghost use Rattle.restart_log.specs.meaning.Lines.{spaced};
@@ -9,14 +9,14 @@ use crate::numbers::number_at;
 use gp_base::{Nums, Seq, after};
 use std::alloc::{AllocError, Global};
 
-/// The number behind a space, with the bytes after it.
+/// The number after a space, with the bytes after it.
 pub fn spaced_at<'a>(bytes: &'a [u8]) -> Option<(i64, &'a [u8])>
     ensures { IsFront spaced_number IsWide EndsNumber bytes.entry.now (option_map (λ read. (read.0, read.1.now)) result) }
 {
     number_at(after(b" ", bytes)?)
 }
 
-// The cell and its value, each behind a space, with the bytes after them.
+// The cell and its value, each after a space, with the bytes after them.
 fn cell_at<'a>(bytes: &'a [u8]) -> Option<((i64, i64), &'a [u8])>
     ensures { IsFront cell_text IsWideCell EndsNumber bytes.entry.now (option_map (λ read. (read.0, read.1.now)) result) }
 {
@@ -25,7 +25,7 @@ fn cell_at<'a>(bytes: &'a [u8]) -> Option<((i64, i64), &'a [u8])>
     Some(((cell, value), rest))
 }
 
-/// The numbers, each behind a space, with the bytes after them. The error is that memory is out.
+/// The numbers, each after a space, with the bytes after them. The error is that memory is out.
 pub fn numbers_at<'a>(alloc: Global, bytes: &'a [u8]) -> Result<(Nums, &'a [u8]), AllocError>
     ensures { IfOk result (λ read. IsOnlyFront spaced (All IsWide) EndsNumbers bytes.entry.now read.0 read.1.now) }
 {

@@ -8,7 +8,7 @@ ghost use Rattle.gp_resume.specs.inner.Fronts.{IsNumber, IsFront, EndsNumber, is
 use gp_base::{after, count_digits};
 use itoa::Buffer;
 
-// How many bytes at the front are digits, perhaps behind a minus.
+// How many bytes at the front are digits, perhaps after a minus.
 fn count_numeral(bytes: &[u8]) -> usize
     ensures numeral { is_numeral (take result bytes.now) ≡ true }
     ensures rest { goes_on (take result bytes.now) (drop result bytes.now) ≡ false }

@@ -157,7 +157,7 @@ fn send_all<R: Threads + Sync, C: Crew>(
     Ok(places)
 }
 
-// How far a position is behind the first.
+// How many places after the first a position stands.
 fn place(first: Pos, position: Pos) -> usize
     requires behind { first ≤ position }
     ensures { result ≡ position - first }

@@ -302,7 +302,7 @@ branch_other (pos (suc n)) a b first second e = first e
 branch_other (negsuc n) a b first second e = first e
 
 module _ (s : Setting) (scope : Scope) (held : List Holding) where
-  -- behind a settle, whose variable may have any value
+  -- after a settle, whose variable may have any value
   settled_good : (left : List Stmt) (p : Point) (next : Next) (register control : ℕ) (v : ℤ) (child : Option ℕ)
       → Fits scope left (pairs_held held) → StillNamed s.program.heads (env_at s p) held
       → step_from s left p ≡ Stop next → next.sync ≡ sync.Settle register control

@@ -166,7 +166,7 @@ impl<'a, H: Wait, G: Enter> PipeCrew<'a, H, G> {
         }
     }
 
-    // Puts the tasks that wait on a board behind the others, where they are worth it.
+    // Puts the tasks that wait on a board after the others, where they are worth it.
     fn follow(&mut self) -> Result<(), AllocError>
         requires fly { All (IsFlight self.old.inbox.work (self.old.threads + 1)) self.old.behind.items }
         ensures fly { All (IsFlight self.new.inbox.work (self.new.threads + 1)) self.new.behind.items }

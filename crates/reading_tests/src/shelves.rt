@@ -70,7 +70,7 @@ fn is_read(shelf: &mut MemShelf, name: &Name) -> bool {
     shelf.read(name, 9).is_ok()
 }
 
-// Whether the call that is listed fails, and not the one before it or behind it.
+// Whether the call that is listed fails, and not the one before it or after it.
 fn second_fails(alloc: Global) -> Result<bool, AllocError> {
     let name = Name::from_slice(alloc, b"p.gp")?;
     let second = Seq::from_slice(alloc, &[2])?;

@@ -132,7 +132,7 @@ fn unexpected_tokens(rt: HostRuntime) {
     }
 }
 
-// Puts the part behind the text so many times.
+// Puts the part after the text so many times.
 fn add(text: &mut Vec<u8>, part: &[u8], times: usize) -> Result<(), AllocError> {
     for _ in 0..times {
         text.extend_from_slice(part)?;
@@ -189,7 +189,7 @@ fn nesting(rt: HostRuntime) -> Result<(), Fail> {
 type Mixed = (usize, &'static str, Option<ParseFault>);
 
 const MIXED: [Mixed; 5] = [
-    // Behind 63 blocks one more may be open, and no more.
+    // After 63 blocks one more may be open, and no more.
     (63, "task main() { |if 1 { |x = (1) + -1;|}|}", None),
     (
         63,
@@ -244,7 +244,7 @@ fn padded(text: Vec<u8>) -> Result<Vec<u8>, AllocError> {
     Ok(padded)
 }
 
-// The text of so many parts, with spaces behind it up to 1,048,576 bytes, is a program.
+// The text of so many parts, with spaces after it up to 1,048,576 bytes, is a program.
 fn fits_padded(
     rt: &impl Abort,
     alloc: Global,

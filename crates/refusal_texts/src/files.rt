@@ -59,7 +59,7 @@ fn push_count(text: &mut Vec<u8>, row: &ByteRecord, used: FileUse<'_>) -> Result
     push_number(text, fields_of(used))
 }
 
-// Whether a field is a whole number, also where it is one that leaves 64 bits: digits, behind a minus or not.
+// Whether a field is a whole number, also where it is one that leaves 64 bits: digits, after a minus or not.
 fn is_whole(field: &[u8]) -> bool {
     let digits = match field {
         [b'-', digits @ ..] => digits,

@@ -48,7 +48,7 @@ fn place_from(entries: &VecDeque<Entry>, p: Pos) -> usize
     place.min(entries.len())
 }
 
-// The place behind a position, or how many entries there are.
+// The place after a position, or how many entries there are.
 fn place_behind(entries: &VecDeque<Entry>, p: Pos) -> usize
     ensures within { result ≤ length entries.now.items }
     ensures later { result < length entries.now.items → p < first_position entries.now.items + result }

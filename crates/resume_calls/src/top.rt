@@ -50,7 +50,7 @@ fn go_on<R: Threads + Sync, O: Sink, E: Sink, G: Gate>(
 /// file of the log is refused, at its first row that is no row (kind 7), or that is not one of a run of this program
 /// from these inputs (kind 8). That file is read last. What its rows say that fit is taken as it stands.
 ///
-/// At 0, 5 and 6 `out` took the text that is still to come: the printed lines of the positions behind the last row, and
+/// At 0, 5 and 6 `out` took the text that is still to come: the printed lines of the positions after the last row, and
 /// the tail of the whole run; before them the first line, where the log has no row. `err` took nothing then. At 2, 3, 4
 /// and 7 `out` took nothing, and `err` one line that tells why; at 8 `err` took such a line, unless it failed itself.
 /// At each status `out` took a prefix of the text. The journal is empty.

@@ -82,7 +82,7 @@ fn push_child(text: &mut Vec<u8>, child: &Option<(ThreadNo, Summed)>) -> Result<
     }
 }
 
-// Appends a cell and its value, each behind a space.
+// Appends a cell and its value, each after a space.
 fn push_cell(text: &mut Vec<u8>, cell: RecNo, value: i64) -> Result<(), AllocError>
     ensures text { OnOk result (text.new.items ≡ text.old.items ++ spaced (cell_numbers (numbered (cell, value)))) }
     ensures wide { IsWideCell (numbered (cell, value)) }

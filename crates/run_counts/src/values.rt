@@ -13,7 +13,7 @@ pub struct Kept {
     to: usize,
 }
 
-/// Values of control variables, those of one place in a run behind those of another.
+/// Values of control variables, those of one place in a run after those of another.
 #[derive(Drop)]
 pub struct Values {
     numbers: Vec<i64>,

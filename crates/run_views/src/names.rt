@@ -15,7 +15,7 @@ pub fn push_number<I: Integer>(text: &mut Vec<u8>, number: I) -> Result<(), Allo
     text.extend_from_slice(Buffer::new().format(number).as_bytes())
 }
 
-/// Appends a word and a number in decimal behind it.
+/// Appends a word and a number in decimal after it.
 pub fn push_labelled<I: Integer>(
     text: &mut Vec<u8>,
     word: &[u8],

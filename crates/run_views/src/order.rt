@@ -65,7 +65,7 @@ fn push_sync(
     }
 }
 
-// Appends locks, each behind a space.
+// Appends locks, each after a space.
 fn push_held(text: &mut Vec<u8>, heads: &[Head], held: &[LockNo]) -> Result<(), AllocError>
     ensures { OnOk result (text.new.items ≡ text.old.items ++ held_text heads.now held.now) }
 {

@@ -196,7 +196,7 @@ module _ (work : Work) (ground : Ground) (at : At) (thread : ℕ) (is : IsContro
     starts : place_in ground before ≡ record { at = at; ctl = ctl; me = thread }
     starts = place_is before ∙ (λ i. record { at = record { task = at.task; pc = pc_is i }; ctl = ctl_is i; me = thread })
 
-    -- behind the synchronisation the body that is left is the whole one
+    -- after the synchronisation the body that is left is the whole one
     body_is : (middle : Stand) → place_in ground middle ≡ code_begins (tasks_in ground) begins child (place_in ground before)
         → body_in ground work.turns (place_in ground middle) ≡ whole
     body_is middle begun =

@@ -68,7 +68,7 @@ module _ (under : List (List ℕ)) (over : List ℕ) (cell : ℕ) where
     none_bundled [] none = tt
     none_bundled (b ∷ bundles) none = (other b (none 0 (omega arith)), none_bundled bundles (λ k less. none (suc k) (omega arith)))
 
-    -- the locks behind the one rise above it
+    -- the locks after the one rise above it
     rises_on : (x : ℕ) (xs : List ℕ) → IsStrictlyIncreasing (x ∷ xs) → IsStrictlyIncreasing xs
     rises_on x xs up k below = let next : suc k + 1 ≡ suc (k + 1) = omega arith in rw next at (up (suc k) (omega arith))
 

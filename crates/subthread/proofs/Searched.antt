@@ -21,7 +21,7 @@ far xs rises i (suc j) less inside =
       | inr not_before ↦ (let same : i ≡ j = omega arith in rw same step)
     ]
 
--- so do those behind the first
+-- so do those after the first
 pub rises_on : (x : ℕ) (xs : List ℕ) → IsStrictlyIncreasing (x ∷ xs) → IsStrictlyIncreasing xs
 rises_on x xs rises k below = let next : suc k + 1 ≡ suc (k + 1) = omega arith in rw next at (rises (suc k) (omega arith))
 

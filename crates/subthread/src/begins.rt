@@ -120,7 +120,7 @@ fn begin_data(
     }
 }
 
-// Stands behind the synchronisation at an instruction, which may be a choice as a whole. The number of a fork's child
+// Stands after the synchronisation at an instruction, which may be a choice as a whole. The number of a fork's child
 // goes into the variable that takes it.
 fn go_behind(does: &Does, ground: &Ground, child: Option<ThreadNo>, stand: &mut Stand)
     requires task { IsTask ground.now }
@@ -202,7 +202,7 @@ pub fn begin(
     }
 }
 
-/// Stands behind the synchronisation with which a run begins, as `begin` does, and does nothing else.
+/// Stands after the synchronisation with which a run begins, as `begin` does, and does nothing else.
 pub fn begin_control(begins: &SyncOp, ground: &Ground, child: Option<ThreadNo>, stand: &mut Stand)
     requires { IsTask ground.now }
     ensures { place_in ground.now stand.new ≡ code_begins (tasks_in ground.now) begins.now child (place_in ground.now stand.old) }

@@ -1,5 +1,5 @@
 -- The threads that have passed stand last in the order in which the token looks at them. Threads are ranked by how far
--- they stand behind the one whose turn was last. Of two that have not ended, where the nearer has passed, the farther
+-- they stand after the one whose turn was last. Of two that have not ended, where the nearer has passed, the farther
 -- has (Staged); each turn keeps that, since the thread that the token comes to is the nearest that has not ended, and
 -- stands last then. So where that one has passed all have, which is the deadlock.
 use Rattle.std.proofs.Common.{◌≡◌, inl, inr, ℕ, zero, suc, ◌+◌, ◌-◌, ◌<◌, ◌≤◌, Bool, true, false, ◌||◌, cond, List, [], ◌∷◌, ◌++◌, map, length, Option, Some, None, is_none, nat_lt, nat_le, unwrap_or, refl, sym, ap, ◌∙◌, subst, arith, count_by, option_map, option_and_then}
@@ -20,7 +20,7 @@ use Rattle.task_ast.specs.Reached.{Reached, at_start, by_pass, by_issue, by_lear
 use Rattle.task_ast.proofs.Counting.{length-with_nth, get-with_nth}
 use Rattle.task_ast.proofs.Turns.{Known, known_to, look_known}
 
--- how far the thread is behind the one whose turn was last
+-- how far the thread is after the one whose turn was last
 abbrev rank : (last n t : ℕ) → ℕ
 rank last n t = cond (nat_lt last t) (t - suc last) (t + n - suc last)
 

@@ -25,7 +25,7 @@ abbrev IsNoFork : What → Type 0
 IsNoFork (tree.Fork t es x) = ⊥
 IsNoFork w = ⊤
 
--- behind a statement that is no fork, the child's number matters nothing
+-- after a statement that is no fork, the child's number matters nothing
 unforked : (child : Option ℕ) (p : Point) (line : ℕ) (w : What) (rest : List Stmt) → IsNoFork w
     → going p rest ≡ behind child p (tree.At line w ∷ rest)
 unforked None p line w rest still = refl
@@ -129,7 +129,7 @@ module _ (program : Program) (inputs : Inputs) (child : Option ℕ) (p : Point) 
   passed_place pc' left' at same (tests pc line e b rest has is after) still =
       passed_one line (tree.While e b) rest _ (ap (slice_get all) (sym at) ∙ is) tt refl (subst (λ k. Left sc all (k + 1) rest) at after)
 
-  -- behind a statement, where the place is not at a jump
+  -- after a statement, where the place is not at a jump
   passes : IsNoJump (instr_at tasks q q.at.pc)
       → Corresponds program (behind child p p.left) (code.behind tasks (instr_at tasks q q.at.pc) child q)
   passes still = passed_place q.at.pc p.left refl refl r.left still

@@ -6,7 +6,7 @@ use Rattle.task_code.specs.Instructions.{Instr, At, Calc, GoOn, Unless, Again}
 use Rattle.task_code.specs.Lowering.{if_code, while_code}
 use Rattle.task_code.specs.inner.Patched.{ended_while, ended_if}
 
--- behind the code so far stands an instruction, then the body, and then the loop is ended
+-- after the code so far stands an instruction, then the body, and then the loop is ended
 pub patched_while : (line : ℕ) (c : Calc) (base b c1 c2 : List Instr) (x : Instr) (start : ℕ) → start ≡ length base → c1 ≡ base ++ x ∷ []
     → c2 ≡ c1 ++ b
     → ended_while line c start c2 ≡ base ++ while_code line c b
@@ -21,7 +21,7 @@ patched_while line c base b c1 c2 x start at e1 e2 =
     ∙ ap (λ l. slice_set l start i ++ t ∷ []) flat ∙ ap (λ k. slice_set (base ++ x ∷ b) k i ++ t ∷ []) at
     ∙ ap (λ l. l ++ t ∷ []) (set-append_seam base x b i) ∙ append_assoc base (i ∷ b) (t ∷ [])
 
--- behind the code so far stands an instruction, then the first side, an instruction, the second side, and then the choice is ended
+-- after the code so far stands an instruction, then the first side, an instruction, the second side, and then the choice is ended
 pub patched_if : (line : ℕ) (c : Calc) (base a b c1 c2 c3 c4 : List Instr) (x y : Instr) (start middle : ℕ) → start ≡ length base
     → c1 ≡ base ++ x ∷ [] → c2 ≡ c1 ++ a
     → middle ≡ length c2 → c3 ≡ c2 ++ y ∷ [] → c4 ≡ c3 ++ b → ended_if line c start middle c4 ≡ base ++ if_code line c a b

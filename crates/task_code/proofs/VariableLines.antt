@@ -29,7 +29,7 @@ line-more taken splits lines i line names more below is added =
     ∙ ap (λ (l : VarLine). names ++ taken (declared_in (l ∷ drop (i + 1) lines))) is
     ∙ sym (at_drop_more (λ (left : List VarLine). names ++ taken (declared_in left)) lines i line below)
 
--- the parameters' names behind these, and then those of the lines
+-- the parameters' names after these, and then those of the lines
 pub first-more : (taken : List Param → List Name) → ((first second : List Param) → taken (first ++ second) ≡ taken first ++ taken second)
     → (params lines : List Param) (start before more : List Name) → before ≡ start → more ≡ before ++ taken params
     → more ++ taken lines ≡ start ++ taken (params ++ lines)

@@ -8,7 +8,7 @@ use Rattle.task_code.specs.Instructions.{Instr, At, Calc, GoOn, Unless, Again, L
 use Rattle.task_code.specs.Lowering.{task_code, lowered}
 use Rattle.task_code.specs.Reading.{instrs_of}
 
--- each jump leads to an instruction, or behind the last one
+-- each jump leads to an instruction, or after the last one
 pub record AreInside (code : List Instr) : Type 0 where
   pub go_on : (pc line n : ℕ) → slice_get code pc ≡ Some (At line (GoOn n)) → pc + 1 + n ≤ length code
   pub unless : (pc line n : ℕ) (c : Calc) → slice_get code pc ≡ Some (At line (Unless c n)) → pc + 1 + n ≤ length code

@@ -110,7 +110,7 @@ pub record Place : Type 0 where
 abbrev pub goto : Place → ℕ → Place
 goto q pc = record q { at = record { task = q.at.task; pc = pc } }
 
--- the place behind this instruction
+-- the place after this instruction
 abbrev pub next_place : Place → Place
 next_place q = goto q (q.at.pc + 1)
 
@@ -156,7 +156,7 @@ module _ (feeds : List Feed) where
   step_does line (Settle k c) q = halt (sync.Settle k c) line
   step_does line (Do d) q = given_value line (deed_action d (env_of q)) (λ a. Act a (next_place q))
 
-  -- the step at an instruction that may be there; behind the last one the task ends
+  -- the step at an instruction that may be there; after the last one the task ends
   abbrev pub step_instr : Option Instr → Place → Step Place
   step_instr None q = halt sync.End 0
   step_instr (Some (At line d)) q = step_does line d q
@@ -181,7 +181,7 @@ module _ (tasks : List (List Instr)) where
   abbrev pub instr_at : Place → (pc : ℕ) → Option Instr
   instr_at q pc = slice_get (instrs_of q.at.task) pc
 
-  -- behind the statement at an instruction, which may be a choice as a whole; a fork's variable then holds the child's number
+  -- after the statement at an instruction, which may be a choice as a whole; a fork's variable then holds the child's number
   abbrev pub behind : Option Instr → (child : Option ℕ) → Place → Place
   behind None child q = q
   behind (Some (At line (Fork f))) child q = with_child child f.into (next_place q)

@@ -65,7 +65,7 @@ fn stop_told(alloc: Global, recheck: &Recheck, status: u8) -> Result<Vec<u8>, Al
     }
 }
 
-// Whether the words ask for a trace, behind which nothing may stand.
+// Whether the words ask for a trace, after which nothing may stand.
 fn is_traced(alloc: Global, words: &[String]) -> Result<bool, AllocError>
     ensures { IfOk result (λ traced. traced ≡ traces (asked_waiting (texts words.now))) }
 {
@@ -105,7 +105,7 @@ fn lines_told(
 
 /// Tells of what a recheck has seen in a call by these words that answered this status: the position at which data were not
 /// as they were left, or whose walks could not be agreed on, where that stopped the run, and how often walks differed, but
-/// not behind a trace. Where memory is
+/// not after a trace. Where memory is
 /// out it tells nothing, and where the write fails a part.
 pub fn tell<E: Sink>(alloc: Global, recheck: &Recheck, words: &[String], status: u8, err: &mut E)
     ensures behind { (lines : List ℕ) × AreTold (traces (asked_waiting (texts words.now))) status lines × AppendsPrefix (E.written err.old) (E.written err.new) lines }

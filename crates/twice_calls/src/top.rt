@@ -49,7 +49,7 @@ pub fn run_told<R: Threads + Sync + AllocGlobal, H: Shelf, O: Sink, E: Sink, G: 
 /// anything is handed on; where they differ, a third walk must be like one of them. The words are those after the
 /// program's name. In the place of lasting workers, which wait, workers draw from boards, and `one` walks twice too.
 ///
-/// The status, and what `out` takes, are those of `gprs_run_pipe`. Behind what it takes there, `err` takes a line where
+/// The status, and what `out` takes, are those of `gprs_run_pipe`. After what it takes there, `err` takes a line where
 /// walks differed, unless a trace is asked for. Where the walks of a position could not be agreed on, or data that it is
 /// lent or that are told were not as they were left, the call stops with status 1, and a line of that stands in the place
 /// of that of memory that is out.

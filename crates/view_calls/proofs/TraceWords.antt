@@ -13,7 +13,7 @@ drop-past [] (suc i) past = refl
 drop-past (x ∷ xs) zero past = absurd (omega (arith, past))
 drop-past (x ∷ xs) (suc i) past = drop-past xs i (omega (arith, past))
 
--- all that is left of a list behind its first elements
+-- all that is left of a list after its first elements
 pub rest-taken : {A : Type 0} (xs : List A) (n : ℕ) → take (length xs - n) (drop n xs) ≡ drop n xs
 rest-taken xs n = take-all (drop n xs) (length xs - n) (let size = length-drop n xs in omega (arith, size))
   where
@@ -65,14 +65,14 @@ pub no-more : (before words : List (String Global)) (all : List (List ℕ)) (i :
     → texts before ++ texts (drop i words) ≡ all → texts before ++ [] ≡ all
 no-more before words all i past so_far = sym (ap (λ left. texts before ++ texts left) (drop-past words i past)) ∙ so_far
 
--- the words before the option and those behind its file are the words without both
+-- the words before the option and those after its file are the words without both
 pub without-option : (words first last : List (String Global)) (at : ℕ) → first ≡ take at words → last ≡ drop (at + 2) words
     → texts first ++ texts last ≡ untraced at (texts words)
 without-option words first last at first_is last_is =
     ap₂ (λ f l. texts f ++ texts l) first_is last_is
     ∙ ap₂ (λ f l. f ++ l) (sym (take-map string_bytes at words)) (sym (drop-map string_bytes (at + 2) words))
 
--- the word behind the option
+-- the word after the option
 pub word-at : (words : List (String Global)) (at : ℕ) (d : String Global) → at < length words
     → string_bytes (get_or words at d) ≡ get_or (texts words) at []
 word-at words at d less = sym (get_or-map string_bytes words at d [] less)
@@ -80,7 +80,7 @@ word-at words at d less = sym (get_or-map string_bytes words at d [] less)
 pub same-length : (words : List (String Global)) → length (texts words) ≡ length words
 same-length words = length-map words string_bytes
 
--- the file of a trace stands behind the option
+-- the file of a trace stands after the option
 pub behind-option : (words : List (String Global)) (at : ℕ) (file : List ℕ) (rest : List (List ℕ)) → at ≡ trace_at (texts words)
     → at + 1 < length words
     → file ≡ get_or (texts words) (at + 1) [] → rest ≡ untraced at (texts words) → traced_by (Some file) rest ≡ timeline_by (texts words)

@@ -55,7 +55,7 @@ fn push_words(alloc: Global, to: &mut Vec<String>, words: &[String]) -> Result<(
     Ok(())
 }
 
-// The words without the option at this place and the word behind it.
+// The words without the option at this place and the word after it.
 fn untraced(alloc: Global, words: &[String], at: usize) -> Result<Vec<String>, AllocError>
     requires { at + 1 < length words.now }
     ensures { IfOk result (λ rest. texts rest.items ≡ untraced at (texts words.now)) }

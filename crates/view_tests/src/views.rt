@@ -157,7 +157,7 @@ const KEPT: &str = "5 thread 2 line 0 start prints 0 holds
 redone 0
 ";
 
-// The run with the first list comes as far as its restart: the result of 7 comes behind it, and the second attempts of
+// The run with the first list comes as far as its restart: the result of 7 comes after it, and the second attempts of
 // 4, 6 and 7 and what is left of the run have not been run.
 const CUT: &str = "issue 0
 post 0 0

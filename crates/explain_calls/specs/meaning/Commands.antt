@@ -20,7 +20,7 @@ abbrev pub is_explain : List (List ℕ) → Bool
 is_explain [] = false
 is_explain (word ∷ words) = bytes_eq word (codes "explain")
 
--- behind it stand the words that `gprs run` takes, of which crew and workers change nothing
+-- after it stand the words that `gprs run` takes, of which crew and workers change nothing
 abbrev pub explained_by : List (List ℕ) → Option Asked
 explained_by words = if is_explain words then option_and_then without_trace (asked_of true Run words) else None
 

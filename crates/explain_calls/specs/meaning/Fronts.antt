@@ -30,7 +30,7 @@ module _ (program : Program) (inputs : Inputs) (limits : Limits) where
 abbrev pub IsHint : List ℕ → Type 0
 IsHint text = (more : List ℕ) × (text ≡ codes "hint: " ++ more)
 
--- The texts of a case. The words of a refusal are left open, and what is told of a run behind its front.
+-- The texts of a case. The words of a refusal are left open, and what is told of a run after its front.
 abbrev pub IsText : Case ToDo → List ℕ → Type 0
 IsText (Refused status names line) text = (status ≡ 3) ⊎ (status ≡ 4) ⊎ IsHint text
 IsText (Go names work) text = (more : List ℕ) × (text ≡ front work.program work.inputs work.limits ++ more)

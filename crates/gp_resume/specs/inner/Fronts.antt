@@ -26,7 +26,7 @@ IsFront {A} text fits ends bytes None = (value : A) (rest : List ℕ) → fits v
 abbrev pub EndsNumber : List ℕ → Type 0
 EndsNumber rest = begins_with_digit rest ≡ false
 
--- digits, perhaps behind a minus
+-- digits, perhaps after a minus
 abbrev pub is_numeral : List ℕ → Bool
 is_numeral [] = true
 is_numeral (c ∷ rest) = (is_ascii_digit c || c == 45) && all_ascii_digits rest
@@ -68,7 +68,7 @@ EndsNumbers = EndsMany spaced_number IsWide EndsNumber
 abbrev pub IsWideCell : ℤ × ℤ → Type 0
 IsWideCell cell = IsWide cell.0 × IsWide cell.1
 
--- a cell and its value, each behind a space
+-- a cell and its value, each after a space
 abbrev pub cell_text : ℤ × ℤ → List ℕ
 cell_text cell = spaced_number cell.0 ++ spaced_number cell.1
 

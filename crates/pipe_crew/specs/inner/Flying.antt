@@ -16,7 +16,7 @@ left_first (Some flight) = left_in flight
 abbrev pub left_all : Option Flight → List Flight → List Task
 left_all first behind = left_first first ++ flat_map left_in behind
 
--- all boards are in flight, each with at most so many passes, and none is behind where none is first, unless memory ran out
+-- all boards are in flight, each with at most so many passes, and none is after where none is first, unless memory ran out
 pub record AreFlying (work : Work) (most : ℕ) (failed : Bool) (first : Option Flight) (behind : List Flight) : Type 0 where
   pub first_flies : IfSome first (IsFlight work most)
   pub behind_fly : All (IsFlight work most) behind

@@ -2,7 +2,7 @@
 use Rattle.std.specs.Prelude.{ℕ, ℤ, List, [], ◌∷◌, ◌++◌, codes, flat_map}
 use Rattle.std.specs.Fmt.{signed_decimal}
 
--- each value in decimal behind a space
+-- each value in decimal after a space
 abbrev pub spaced : List ℤ → List ℕ
 spaced = flat_map (λ value. codes " " ++ signed_decimal value)
 

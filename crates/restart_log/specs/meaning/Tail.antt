@@ -24,7 +24,7 @@ end_section (Stuck why thread line) records =
     codes "stuck " ++ why_word why ++ codes " thread " ++ decimal thread ++ codes " line " ++ decimal line ++ codes "\n"
 end_section (Spent position) records = codes "spent " ++ decimal position ++ codes "\n"
 
--- the positions that are redone, each behind a space
+-- the positions that are redone, each after a space
 abbrev pub redo_text : List ℕ → List ℕ
 redo_text redo = codes " redo" ++ flat_map (λ position. codes " " ++ decimal position) redo
 

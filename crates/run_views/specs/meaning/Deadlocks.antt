@@ -41,7 +41,7 @@ barrier_lines (barrier ∷ barriers) b nexts =
 abbrev pub standing_text : List Head → (owners : List (Option ℕ)) → (nexts : List (Option Next)) → List ℕ
 standing_text heads owners nexts = waits_text heads owners 0 nexts ++ barrier_lines (barriers_of heads) 0 nexts
 
--- what is told behind the line of the end, of the threads as they stand then
+-- what is told after the line of the end, of the threads as they stand then
 abbrev pub deadlock_text : List Head → Run → End → List ℕ
 deadlock_text heads x (Stuck why.Deadlock thread line) = standing_text heads x.owners (nexts_in x)
 deadlock_text heads x ending = []

@@ -42,7 +42,7 @@ sync_text heads sync.End child = []
 sync_text heads sync.BadIndex child = []
 sync_text heads sync.Spent child = []
 
--- the locks that a subthread holds, each behind a space
+-- the locks that a subthread holds, each after a space
 abbrev pub held_text : List Head → (held : List ℕ) → List ℕ
 held_text heads held = flat_map (λ lock. codes " " ++ cell_name (locks_of heads) lock) held
 

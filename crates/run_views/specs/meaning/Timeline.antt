@@ -299,7 +299,7 @@ boxes band heads tells p s attempt number (r ∷ later) =
     ++ boxes band heads tells p s (suc attempt) (suc number) later)
     (boxes band heads tells p s attempt (suc number) later)
 
--- the line of the restart of this number behind a position, and its number below
+-- the line of the restart of this number after a position, and its number below
 unfoldable pub front_mark : Band → (position number : ℕ) → List ℕ
 front_mark band p number =
     placed (codes "<rect") (codes "front") (left band p + 44) (band.top + 14) ++ sized 2 (band_height band - 24) ++ codes "/>\n"

@@ -3,8 +3,8 @@
 --     task main() { var i; while i < 1 { i = i + 1; } fork tell(i + 1); print i; join 1; }
 -- at `while` an Iteration, as i < 1 is 1: its block and the `while` again are left then; at `i = i + 1;` a Silent step,
 -- to i = 1; at `while` a Silent step past it, as i < 1 is 0; at `fork` a Stop on line 2, before the fork of task 0 with
--- the argument 2. Behind the fork, at `print` an Act, which says the constant 1; at `join` a Stop on line 2, before the
--- join of thread 1. Behind the join no statement is left: a Stop on line 0, before the end.
+-- the argument 2. After the fork, at `print` an Act, which says the constant 1; at `join` a Stop on line 2, before the
+-- join of thread 1. After the join no statement is left: a Stop on line 0, before the end.
 use Rattle.std.specs.Prelude.{ℕ, suc, ℤ, pos, ◌+◌, cond, List, [], ◌∷◌, ◌++◌, map, Option, Some, None, unwrap_or, option_map, option_and_then, position, length}
 use Rattle.gp_base.specs.declared.feed.Feed.{Feed}
 use Rattle.task_ast.specs.declared.env.Env.{Env}
@@ -160,7 +160,7 @@ module _ (s : Setting) where
   begin_actions (At line (Join e (Some x)) ∷ rest) p = Bring (slot (registers_of p.task) x) ∷ []
   begin_actions _ p = []
 
--- behind the synchronisation at a point; a fork's variable then holds the child's number
+-- after the synchronisation at a point; a fork's variable then holds the child's number
 abbrev pub behind : Option ℕ → Point → List Stmt → Point
 behind child p [] = p
 behind (Some c) p (At line (Fork t es (Some x)) ∷ rest) = record p { left = rest; names = with_value p.names x (pos c) }

@@ -5,7 +5,7 @@
 -- has four subthreads, at the positions 0 to 3: thread 0 from its start, with the loop, which prints nothing; thread 0
 -- from the fork of thread 1, which prints 1; thread 1 from its start, which prints 2; thread 0 from the join of thread 1,
 -- which has ended, and it prints nothing. Then both threads have ended: the run is finished. A limit of no loop turn
--- would end it Spent 0, behind position 0, and one of three subthreads Spent 3, behind position 2.
+-- would end it Spent 0, after position 0, and one of three subthreads Spent 3, after position 2.
 use Rattle.std.specs.Prelude.{ℕ, suc, ℤ, pos, negsuc, ◌+◌, ◌*◌, ◌==◌, Bool, true, false, not, cond, List, [], ◌∷◌, ◌++◌, length, replicate, map, count_by, Option, Some, None, is_none, nat_lt, nat_le, slice_get, unwrap_or}
 use Rattle.gp_base.specs.declared.limits.TheConstants.{MOST_THREADS}
 use Rattle.gp_base.specs.declared.limits.Limits.{Limits}

@@ -1,4 +1,4 @@
--- Values with zeros behind them.
+-- Values with zeros after them.
 use Rattle.std.specs.Prelude.{ℕ, ◌-◌, ℤ, pos, List, ◌++◌, take, length, replicate}
 
 -- the first so many of these values, and 0 up to the whole count

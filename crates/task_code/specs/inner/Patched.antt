@@ -1,4 +1,4 @@
--- Jumps that are written behind what they pass.
+-- Jumps that are written after what they pass.
 use Rattle.std.specs.Prelude.{ℕ, ◌-◌, List, [], ◌∷◌, ◌++◌, length, slice_set}
 use Rattle.task_code.specs.Instructions.{Instr, At, Calc, GoOn, Unless, Again}
 

@@ -1,4 +1,4 @@
--- What a call that walks each subthread twice may write behind all that it has to write. No definition says when walks
+-- What a call that walks each subthread twice may write after all that it has to write. No definition says when walks
 -- differ, how often they did, or when data at rest were not as they were left: what a machine does wrong is in none.
 use Rattle.std.specs.Prelude.{◌≡◌, ◌⊎◌, ◌≤◌, ◌++◌, ℕ, Bool, false, List, [], Option, Some, None, codes, decimal}
 use Rattle.gp_base.specs.meaning.Sinks.{AppendsPrefix}
@@ -35,7 +35,7 @@ pub record AreTold (traced : Bool) (status : ℕ) (lines : List ℕ) : Type 0 wh
   pub is_seen : MayTellDiffered traced seen
   pub lines_are : lines ≡ stop ++ seen
 
--- behind what it was due to take, the error stream took such lines, or a part of them
+-- after what it was due to take, the error stream took such lines, or a part of them
 pub record MayTellBehind (traced : Bool) (status : ℕ) (due all : Change) : Type 0 where
   pub written : all.written ≡ due.written
   pub faults : all.faults ≡ due.faults

@@ -21,7 +21,7 @@ whole_run run = record { run = run; position = None; trace = None }
 abbrev pub placed_run : Sought → Viewed
 placed_run sought = record { run = sought.run; position = Some sought.position; trace = None }
 
--- behind `order` stand the words that `gprs one` takes
+-- after `order` stand the words that `gprs one` takes
 abbrev pub order_asked : List (List ℕ) → Option Viewed
 order_asked words = option_map whole_run (asked_of true One words)
 
@@ -30,7 +30,7 @@ abbrev pub trace_at : List (List ℕ) → ℕ
 trace_at [] = 0
 trace_at (word ∷ words) = if bytes_eq word (codes "--trace") then 0 else suc (trace_at words)
 
--- the words without the option at this place and the word behind it
+-- the words without the option at this place and the word after it
 abbrev pub untraced : (at : ℕ) → List (List ℕ) → List (List ℕ)
 untraced at words = take at words ++ drop (at + 2) words
 
@@ -41,8 +41,8 @@ traced_run trace run = if run.trace then None else Some (record { run = run; pos
 abbrev pub traced_by : (trace : Option Name) → List (List ℕ) → Option Viewed
 traced_by trace words = option_and_then (traced_run trace) (asked_of true Run words)
 
--- behind `timeline` stand those that `gprs run` takes, of which crew and workers change nothing, and the option `--trace` with a file
--- behind it
+-- after `timeline` stand those that `gprs run` takes, of which crew and workers change nothing, and the option `--trace` with a file
+-- after it
 abbrev pub timeline_at : (at : ℕ) → List (List ℕ) → Option Viewed
 timeline_at at words =
     if nat_lt (at + 1) (length words) then traced_by (Some (get_or words (at + 1) [])) (untraced at words) else traced_by None words
