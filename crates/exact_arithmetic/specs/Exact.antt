@@ -1,6 +1,6 @@
 -- Whether arithmetic stays exact: no operation leaves 64 bits or divides by 0. For example, `x * 2 + 1` with x at the greatest
 -- number is not exact at its `*`, whatever the sum is then.
-use Rattle.std.specs.Prelude.{ℤ, Bool, true, not, ◌&&◌, Option, Some, None, ◌+ℤ◌, ◌-ℤ◌, ◌*ℤ◌, neg_ℤ, int_div}
+use Rattle.std.specs.Prelude.{ℤ, Bool, true, not, ◌&&◌, [], Option, Some, None, ◌+ℤ◌, ◌-ℤ◌, ◌*ℤ◌, neg_ℤ, int_div}
 use Rattle.std.specs.Int.{int_wrap, w64}
 use Rattle.std.specs.Ordering.{int_eq}
 use Rattle.task_ast.specs.declared.env.Env.{Env}
@@ -39,7 +39,7 @@ abbrev mutual
   stays (Reg x) env = true
   stays Me env = true
   stays (Rows f) env = true
-  stays (Cell f row field) env = stays row env && stays field env
+  stays (Cell f row field) env = let control = record env { regs = [] } in stays row control && stays field control
   stays (Neg e) env = stays e env && negates (value e env)
   stays (Not e) env = stays e env
   stays (Chain e links) env = stays e env && stays_on links env (value e env)

@@ -18,11 +18,11 @@ use Rattle.task_ast.specs.declared.tree.Param.TheVariants as param
 use Rattle.task_ast.specs.meaning.Tree.{Name, Expr, Stmt, At, What, SetCtl, While, If, Lock, Unlock, Fork, Join, Barrier, Settle, SetReg, Read, Write, Print, When, Block, Nothing, Then, TaskText, Program}
 use Rattle.task_ast.specs.meaning.Names.{is_name, barriers_of, registers_of, task_named, task_number, slot}
 use Rattle.task_ast.specs.meaning.Value.{value, branch}
-use Rattle.task_ast.specs.meaning.Action.{term, Action, Set, Load, Store, Say, Choose, Child, Give, Bring, Arm, NoAction, OneAction}
+use Rattle.task_ast.specs.meaning.Action.{of_registers, Action, Set, Load, Store, Say, Choose, Child, Give, Bring, Arm, NoAction, OneAction}
 use Rattle.task_ast.specs.meaning.Body.{Step, Silent, Iteration, Act, Stop, Body, follow, stretch, body}
 use Rattle.task_ast.specs.meaning.Control.{Setting, Point, known, action, arm, lock_number, record_number, all_of, control_arguments, data_arguments, fork_arguments, fork_named, step_at, step_from, step, size, begin_actions, env_at, tree_body}
 use Rattle.task_ast.specs.meaning.State.{State, RegistersOf, cell_value}
-use Rattle.task_ast.specs.meaning.Effect.{Doing, cell_now, term_value, done, arm_done, all_done, joined_ret, effect}
+use Rattle.task_ast.specs.meaning.Effect.{Doing, cell_now, done, arm_done, all_done, joined_ret, effect}
 use Rattle.task_ast.specs.meaning.Turn.{child_of}
 use Rattle.task_ast.specs.meaning.Under.{is_under}
 use Rattle.task_ast.specs.Under.{KeepsToLocks}
@@ -46,12 +46,12 @@ picked_keeps P (negsuc n) a b first second = first
 module _ (cells : ℕ → ℤ) (joined : ℤ) where
   mutual
     done_registers : (a : Action) (d : Doing) → length (done cells joined a d).registers ≡ length d.registers
-    done_registers (Set k t) d = length-set d.registers k (term_value t d.registers)
+    done_registers (Set k t) d = length-set d.registers k (t d.registers)
     done_registers (Load c k) d = length-set d.registers k (cell_now cells joined d c)
     done_registers (Store c t) d = refl
     done_registers (Say ts) d = refl
     done_registers (Choose t a b) d =
-        picked_keeps (λ e. length e.registers ≡ length d.registers) (term_value t d.registers)
+        picked_keeps (λ e. length e.registers ≡ length d.registers) (t d.registers)
         (arm_done cells joined a d) (arm_done cells joined b d)
         (arm_registers a d) (arm_registers b d)
     done_registers (Child count) d = refl
@@ -102,11 +102,11 @@ module _ (cells : ℕ → ℤ) (joined : ℤ) where
     done_child (Store c t) d none = refl
     done_child (Say ts) d none = refl
     done_child (Choose t a b) d none =
-        picked_keeps (λ e. length e.child ≡ length d.child) (term_value t d.registers)
+        picked_keeps (λ e. length e.child ≡ length d.child) (t d.registers)
         (arm_done cells joined a d) (arm_done cells joined b d)
         (arm_child a d none.0) (arm_child b d none.1)
     done_child (Child count) d none = absurd none
-    done_child (Give k t) d none = length-set d.child k (term_value t d.registers)
+    done_child (Give k t) d none = length-set d.child k (t d.registers)
     done_child (Bring k) d none = refl
 
     arm_child : (x : Arm) (d : Doing) → ArmBearsNone x → length (arm_done cells joined x d).child ≡ length d.child
@@ -156,15 +156,15 @@ module _ (s : Setting) where
   module _ (registers : List Name) (env : Env) where
     mutual
       action_bears : (w : What) (a : Action) → action s registers w env ≡ Some a → BearsNone a
-      action_bears (SetReg x e) a is = mapped BearsNone (term registers e env) (Set (slot registers x)) a (λ t known. tt) is
+      action_bears (SetReg x e) a is = mapped BearsNone (of_registers registers e env) (Set (slot registers x)) a (λ t known. tt) is
       action_bears (Read r i x) a is =
           mapped BearsNone (record_number s r i env) (λ c. Load c (slot registers x)) a (λ c known. tt) is
       action_bears (Write r i e) a is =
-          chained BearsNone (record_number s r i env) (λ c. option_map (Store c) (term registers e env)) a
-          (λ c known there. mapped BearsNone (term registers e env) (Store c) a (λ t known. tt) there) is
-      action_bears (Print es) a is = mapped BearsNone (all_of (map (λ e. term registers e env) es)) Say a (λ ts known. tt) is
+          chained BearsNone (record_number s r i env) (λ c. option_map (Store c) (of_registers registers e env)) a
+          (λ c known there. mapped BearsNone (of_registers registers e env) (Store c) a (λ t known. tt) there) is
+      action_bears (Print es) a is = mapped BearsNone (all_of (map (λ e. of_registers registers e env) es)) Say a (λ ts known. tt) is
       action_bears (When e x y) a is =
-          chained BearsNone (term registers e env) _ a
+          chained BearsNone (of_registers registers e env) _ a
           (λ t known there. chained BearsNone (arm s registers x env) _ a
           (λ first known_first further. mapped BearsNone (arm s registers y env) (Choose t first) a
           (λ second known_second. (arm_bears x first known_first, arm_bears y second known_second)) further) there) is
@@ -248,7 +248,7 @@ module _ (s : Setting) where
       → data_arguments s given registers params es env ≡ Some actions → AllBearNone actions
   gifts_bear given registers (param.Ctl x ∷ params) (e ∷ es) env actions is = gifts_bear given registers params es env actions is
   gifts_bear given registers (param.Reg x ∷ params) (e ∷ es) env actions is =
-      chained AllBearNone (term registers e env) _ actions
+      chained AllBearNone (of_registers registers e env) _ actions
       (λ t known there. mapped AllBearNone (data_arguments s given registers params es env)
       (λ rest. Give (slot given x) t ∷ rest) actions
       (λ rest known_rest. (tt, gifts_bear given registers params es env rest known_rest)) there) is

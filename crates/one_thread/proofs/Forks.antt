@@ -4,7 +4,6 @@
 -- finds none either.
 use Rattle.std.proofs.Common.{◌≡◌, ℕ, suc, ◌+◌, ◌<◌, ℤ, Bool, true, false, cond, List, [], ◌∷◌, ◌++◌, map, length, get_or, drop, Option, Some, None, refl, sym, ap, ◌∙◌, subst, option_map, option_and_then, position, unwrap_or, append-nil, nat_lt, ◌≤◌, ◌&&◌}
 use Rattle.std.specs.Prelude.{is_some, slice_get, slice_set, find, replicate, pos}
-use Rattle.task_ast.specs.meaning.Effect.{term_value}
 use Rattle.one_thread.specs.declared.data.Data.{Data}
 use Rattle.one_thread.specs.inner.Working.{worked, all_worked}
 use Rattle.std.proofs.lemmas.Bool.{false≢true, ltb-true, ltb-false}
@@ -17,7 +16,7 @@ use Rattle.task_ast.specs.declared.tree.TaskText.{TaskText as CodeTask}
 use Rattle.task_ast.specs.declared.tree.Program.{Program as CodeProgram}
 use Rattle.task_ast.specs.meaning.Tree.{Name, Expr, TaskText}
 use Rattle.task_ast.specs.meaning.Names.{is_name, is_task, task_named, task_number, registers_of, slot}
-use Rattle.task_ast.specs.meaning.Action.{Term, Action, Give, Child, term}
+use Rattle.task_ast.specs.meaning.Action.{OfRegisters, Action, Give, Child, of_registers}
 use Rattle.task_ast.specs.meaning.Body.{Step}
 use Rattle.task_ast.specs.meaning.Control.{Setting, Point, known, stop, control_arguments, data_arguments, fork_arguments, fork_named}
 use Rattle.task_ast.specs.View.{plain_expr, plain_exprs, plain_task, plain_program}
@@ -142,12 +141,12 @@ module _ (s : Setting) (given registers : List Name) (env : Env) where
   -- a data argument
   pub data-argument : (params : List Param) (es : List CodeExpr) (k : ℕ) (p : Param) (e : CodeExpr) (x : Name) (b : Bool)
       → k < length params → p ≡ get_or params k p → true ≡ nat_lt k (length es) → e ≡ get_or es k e
-      → p ≡ param.Reg x → b ≡ is_some (term registers (plain_expr e) env) → datas_from params es k ≡ b && datas_from params es (k + 1)
+      → p ≡ param.Reg x → b ≡ is_some (of_registers registers (plain_expr e) env) → datas_from params es k ≡ b && datas_from params es (k + 1)
   data-argument params es k p e x b p_in p_is e_in e_is variable has =
       datas_here params es k p e p_in p_is e_in e_is
       ∙ ap (λ q. is_some (data_arguments s given registers (q ∷ drop (k + 1) params) (plain_expr e ∷ plain_exprs (drop (k + 1) es)) env))
       variable
-      ∙ and_then_some _ (term registers (plain_expr e) env)
+      ∙ and_then_some _ (of_registers registers (plain_expr e) env)
       (data_arguments s given registers (drop (k + 1) params) (plain_exprs (drop (k + 1) es)) env)
       ∙ ap (λ b. b && datas_from params es (k + 1)) (sym has)
 
@@ -308,8 +307,8 @@ ahead-done joined whole left now start none ahead actions is =
     let empty : [] ≡ so_far.0 = cc (sym none ∙ so_far.1) in
     ap (λ l. all_worked joined l now) empty ∙ so_far.2
 
-given_on : (joined : ℤ) (k : ℕ) (o : Option Term) (r : Option (List Action)) (now new goal : Data) (rest : List Action)
-    → ((t : Term) → o ≡ Some t → new ≡ worked joined (Give k t) now)
+given_on : (joined : ℤ) (k : ℕ) (o : Option OfRegisters) (r : Option (List Action)) (now new goal : Data) (rest : List Action)
+    → ((t : OfRegisters) → o ≡ Some t → new ≡ worked joined (Give k t) now)
     → option_and_then (λ t. option_map (λ actions. Give k t ∷ actions) r) o ≡ Some rest → all_worked joined rest now ≡ goal
     → (later : List Action) × (r ≡ Some later) × (all_worked joined later new ≡ goal)
 given_on joined k None r now new goal rest gives is same = absurd (cc is)
@@ -335,11 +334,11 @@ module _ (joined : ℤ) (s : Setting) (given registers : List Name) (env : Env) 
   pub give-one : (params : List Param) (es : List CodeExpr) (k : ℕ) (p : Param) (e : CodeExpr) (x : Name) (now new : Data)
       → k < length params → p ≡ get_or params k p → true ≡ nat_lt k (length es) → e ≡ get_or es k e
       → p ≡ param.Reg x
-      → ((t : Term) → term registers (plain_expr e) env ≡ Some t → new ≡ worked joined (Give (slot given x) t) now)
+      → ((t : OfRegisters) → of_registers registers (plain_expr e) env ≡ Some t → new ≡ worked joined (Give (slot given x) t) now)
       → AheadOf joined whole (rest_from params es k) now start → AheadOf joined whole (rest_from params es (k + 1)) new start
   give-one params es k p e x now new p_in p_is e_in e_is variable gives ahead actions is =
       let so_far = ahead actions is in
-      given_on joined (slot given x) (term registers (plain_expr e) env) (rest_from params es (k + 1)) now new
+      given_on joined (slot given x) (of_registers registers (plain_expr e) env) (rest_from params es (k + 1)) now new
       (all_worked joined actions start) so_far.0 gives
       (sym (rest_here params es k p e p_in p_is e_in e_is
       ∙ ap (λ q. data_arguments s given registers (q ∷ drop (k + 1) params) (plain_expr e ∷ plain_exprs (drop (k + 1) es)) env)
@@ -370,12 +369,12 @@ module _ (joined : ℤ) (s : Setting) (given registers : List Name) (env : Env) 
       ap (λ (l : List Param). data_arguments s given registers l (plain_exprs (drop k es)) env) (drop_of_length-le params past)
 
 -- the value of a data argument, as it is given
-pub given-value : (joined : ℤ) (k : ℕ) (o : Option Term) (v : ℤ) (now new : Data) → Some v ≡ option_map (λ t. term_value t now.registers) o
-    → new ≡ record now { child = slice_set now.child k v } → (t : Term) → o ≡ Some t → new ≡ worked joined (Give k t) now
+pub given-value : (joined : ℤ) (k : ℕ) (o : Option OfRegisters) (v : ℤ) (now new : Data) → Some v ≡ option_map (λ t. t now.registers) o
+    → new ≡ record now { child = slice_set now.child k v } → (t : OfRegisters) → o ≡ Some t → new ≡ worked joined (Give k t) now
 given-value joined k o v now new is set t term_is =
-    let same : v ≡ term_value t now.registers = cc (is ∙ ap (option_map (λ t. term_value t now.registers)) term_is) in
+    let same : v ≡ t now.registers = cc (is ∙ ap (option_map (λ t. t now.registers)) term_is) in
     set ∙ ap (λ v. record now { child = slice_set now.child k v }) same
 
-pub no-value : (joined : ℤ) (k : ℕ) (o : Option Term) (now : Data) → None ≡ option_map (λ t. term_value t now.registers) o → (t : Term)
+pub no-value : (joined : ℤ) (k : ℕ) (o : Option OfRegisters) (now : Data) → None ≡ option_map (λ t. t now.registers) o → (t : OfRegisters)
     → o ≡ Some t → now ≡ worked joined (Give k t) now
-no-value joined k o now is t term_is = absurd (cc (is ∙ ap (option_map (λ t. term_value t now.registers)) term_is))
+no-value joined k o now is t term_is = absurd (cc (is ∙ ap (option_map (λ t. t now.registers)) term_is))

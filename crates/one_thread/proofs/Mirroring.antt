@@ -7,9 +7,9 @@ use Rattle.std.specs.FinMap.Entries.{find-put}
 use Rattle.std.proofs.lemmas.Cmp.{nat_cmp_total}
 use Rattle.std.proofs.lemmas.Bool.{false≢true, ltb-true, le-ltb, eq-eqb}
 use Rattle.task_ast.specs.meaning.Value.{branch}
-use Rattle.task_ast.specs.meaning.Action.{Term, Action, Set, Load, Store, Say, Choose, Child, Give, Bring, Arm, NoAction, OneAction}
+use Rattle.task_ast.specs.meaning.Action.{OfRegisters, Action, Set, Load, Store, Say, Choose, Child, Give, Bring, Arm, NoAction, OneAction}
 use Rattle.task_ast.specs.meaning.State.{number_at}
-use Rattle.task_ast.specs.meaning.Effect.{term_value, Doing, done, arm_done, all_done}
+use Rattle.task_ast.specs.meaning.Effect.{Doing, done, arm_done, all_done}
 use Rattle.task_ast.specs.laws.Keeps.{NamesOnly, ArmNamesOnly, AllName}
 use Rattle.one_thread.specs.declared.data.Data.{Data}
 use Rattle.one_thread.specs.inner.Working.{first_unless, worked, arm_worked, recorded, all_worked}
@@ -66,8 +66,8 @@ picked_mirrors found count (pos zero) a b x y f s = s
 picked_mirrors found count (pos (suc n)) a b x y f s = f
 picked_mirrors found count (negsuc n) a b x y f s = f
 
-abbrev said : List Term → List ℤ → List ℤ
-said ts r = map (λ t. term_value t r) ts
+abbrev said : List OfRegisters → List ℤ → List ℤ
+said ts r = map (λ t. t r) ts
 
 module _ (found : ℕ → ℤ) (joined : ℤ) (count : ℕ) where
   abbrev test : ℕ → Bool
@@ -78,7 +78,7 @@ module _ (found : ℕ → ℤ) (joined : ℤ) (count : ℕ) where
         → Mirrors found count (done found joined a d) (worked joined a w)
     worked_mirrors (Set k t) d w names same =
         record {
-          registers = ap (λ r. slice_set r k (term_value t r)) same.registers;
+          registers = ap (λ r. slice_set r k (t r)) same.registers;
           child = same.child;
           lines = same.lines;
           cells = same.cells;
@@ -99,10 +99,10 @@ module _ (found : ℕ → ℤ) (joined : ℤ) (count : ℕ) where
           child = same.child;
           lines = same.lines;
           cells = λ q below.
-              ap (λ r. number_at (slice_set w.cells c (term_value t r)) q) same.registers
-              ∙ found_after c (term_value t d.registers) d.written w.cells q (found q)
+              ap (λ r. number_at (slice_set w.cells c (t r)) q) same.registers
+              ∙ found_after c (t d.registers) d.written w.cells q (found q)
               (let within = ltb-true c count names in let all = same.many in omega arith) (same.cells q below);
-          many = length_set w.cells c (term_value t w.registers) ∙ same.many;
+          many = length_set w.cells c (t w.registers) ∙ same.many;
         }
     worked_mirrors (Say ts) d w names same =
         record {
@@ -115,15 +115,15 @@ module _ (found : ℕ → ℤ) (joined : ℤ) (count : ℕ) where
         }
     worked_mirrors (Choose t a b) d w names same =
         subst (λ v. Mirrors found count (done found joined (Choose t a b) d)
-        (first_unless v (arm_worked joined a w) (arm_worked joined b w))) (sym (ap (term_value t) same.registers))
-        (picked_mirrors found count (term_value t d.registers) _ _ _ _ (arm_mirrors a d w names.0 same) (arm_mirrors b d w names.1 same))
+        (first_unless v (arm_worked joined a w) (arm_worked joined b w))) (sym (ap t same.registers))
+        (picked_mirrors found count (t d.registers) _ _ _ _ (arm_mirrors a d w names.0 same) (arm_mirrors b d w names.1 same))
     worked_mirrors (Child n) d w names same =
         record { registers = same.registers; child = refl; lines = same.lines; cells = same.cells; many = same.many }
     worked_mirrors (Give k t) d w names same =
         record {
           registers = same.registers;
-          child = ap (λ l. slice_set l k (term_value t w.registers)) same.child
-              ∙ ap (λ r. slice_set d.child k (term_value t r)) same.registers;
+          child = ap (λ l. slice_set l k (t w.registers)) same.child
+              ∙ ap (λ r. slice_set d.child k (t r)) same.registers;
           lines = same.lines;
           cells = same.cells;
           many = same.many;

@@ -3,8 +3,7 @@ use Rattle.std.proofs.Common.{◌≡◌, ℕ, zero, suc, ℤ, pos, negsuc, Bool,
 use Rattle.std.specs.Prelude.{nat_eq}
 use Rattle.std.specs.Ordering.{nat_cmp, match_ordering}
 use Rattle.std.specs.BTreeSet.{insert_key}
-use Rattle.task_ast.specs.meaning.Action.{Term, Action, Set, Load, Store, Say, Choose, Child, Give, Bring, Arm, NoAction, OneAction}
-use Rattle.task_ast.specs.meaning.Effect.{term_value}
+use Rattle.task_ast.specs.meaning.Action.{OfRegisters, Action, Set, Load, Store, Say, Choose, Child, Give, Bring, Arm, NoAction, OneAction}
 use Rattle.task_ast.specs.meaning.Footprint.{Named, with_cell, naming, arm_naming, all_naming}
 use Rattle.one_thread.specs.declared.data.Data.{Data}
 use Rattle.one_thread.specs.inner.Working.{first_unless, worked, arm_worked, recorded, all_worked, Works, Notes, ArmNotes}
@@ -24,7 +23,7 @@ keys-with c (d ∷ cells) =
     ∙ ap (λ l. cond (nat_lt c d) (c ∷ d ∷ cells) (cond (nat_eq c d) (d ∷ cells) (d ∷ l))) (keys-with c cells)
 
 -- what a choice names is what both arms name
-pub notes-choice : (t : Option Term) (a b : Option Arm) (old middle new : Named)
+pub notes-choice : (t : Option OfRegisters) (a b : Option Arm) (old middle new : Named)
     → ArmNotes a old middle → ArmNotes b middle new → Notes (chosen t a b) old new
 notes-choice None a b old middle new first second act at = absurd (cc at)
 notes-choice (Some t) None b old middle new first second act at = absurd (cc at)
@@ -47,7 +46,7 @@ module _ (joined : ℤ) (n : Named) where
     worked-named (Store c t) d = refl
     worked-named (Say ts) d = refl
     worked-named (Choose t a b) d =
-        let v = term_value t d.registers in
+        let v = t d.registers in
         ap (λ x. first_unless v x (arm_worked joined b (record d { named = n }))) (arm-named a d)
         ∙ ap (first_unless v (record (arm_worked joined a d) { named = n })) (arm-named b d)
         ∙ sym (unless-named v (arm_worked joined a d) (arm_worked joined b d) n)

@@ -12,7 +12,7 @@ use Rattle.task_ast.specs.declared.sync.SyncOp.{SyncOp}
 use Rattle.task_ast.specs.declared.sync.SyncOp.TheVariants as sync
 use Rattle.task_ast.specs.meaning.Tree.{Name, Expr, Stmt, At, What, SetCtl, While, If, Lock, Unlock, Fork, Join, Barrier, Settle, SetReg, Read, Write, Print, When, Block, Nothing, Then, TaskText}
 use Rattle.task_ast.specs.meaning.Names.{is_name, place, cell_number, cells_in, records_of, registers_of, task_named, slot}
-use Rattle.task_ast.specs.meaning.Action.{Term, Action, Store, Say, Choose, Child, Give, Arm, OneAction, term}
+use Rattle.task_ast.specs.meaning.Action.{OfRegisters, Action, Store, Say, Choose, Child, Give, Arm, OneAction, of_registers}
 use Rattle.task_ast.specs.meaning.Body.{Step, Silent, Iteration, Act, Stop, Body, follow, stretch, body}
 use Rattle.task_ast.specs.meaning.Control.{Setting, Point, known, going, env_at, action, arm, action_of, record_number, data_arguments, control_arguments, fork_arguments, begin_actions, first_actions, step, step_at, step_from, size, tree_body}
 use Rattle.task_ast.specs.laws.Keeps.{NamesOnly, ArmNamesOnly, AllName}
@@ -72,15 +72,15 @@ module _ (s : Setting) where
   mutual
     action_within : (registers : List Name) (w : What) (env : Env) (a : Action) → action s registers w env ≡ Some a
         → NamesOnly (is_cell s) a
-    action_within registers (SetReg x e) env a is = mapped (is_cell s) _ (term registers e env) a (λ t at. tt) is
+    action_within registers (SetReg x e) env a is = mapped (is_cell s) _ (of_registers registers e env) a (λ t at. tt) is
     action_within registers (Read r i x) env a is =
         mapped (is_cell s) _ (record_number s r i env) a (λ c at. lt-ltb c _ (cell-below _ r _ c at)) is
     action_within registers (Write r i e) env a is =
         chained (is_cell s) _ (record_number s r i env) a
-        (λ c at more. mapped (is_cell s) (Store c) (term registers e env) a (λ t there. lt-ltb c _ (cell-below _ r _ c at)) more) is
+        (λ c at more. mapped (is_cell s) (Store c) (of_registers registers e env) a (λ t there. lt-ltb c _ (cell-below _ r _ c at)) more) is
     action_within registers (Print es) env a is = mapped (is_cell s) Say _ a (λ ts at. tt) is
     action_within registers (When e x y) env a is =
-        chained (is_cell s) _ (term registers e env) a
+        chained (is_cell s) _ (of_registers registers e env) a
         (λ t at more. chained (is_cell s) _ (arm s registers x env) a
         (λ first at_first last. mapped (is_cell s) (Choose t first) (arm s registers y env) a
         (λ second at_second. (arm_within registers x env first at_first, arm_within registers y env second at_second)) last) more)
@@ -169,7 +169,7 @@ module _ (s : Setting) where
       (λ f is q. subst (λ (g : Point → Body Point). AllName (is_cell s) (g q).actions) (some_is is) (body_within turns q))
       (suc (size p)) p
 
-  gave : (k : ℕ) (o : Option Term) (r : Option (List Action)) (actions : List Action)
+  gave : (k : ℕ) (o : Option OfRegisters) (r : Option (List Action)) (actions : List Action)
       → option_and_then (λ t. option_map (λ more. Give k t ∷ more) r) o ≡ Some actions
       → ((more : List Action) → r ≡ Some more → AllName (is_cell s) more) → AllName (is_cell s) actions
   gave k None r actions is each = absurd (cc is)
@@ -183,7 +183,7 @@ module _ (s : Setting) where
   datas_within given registers (param.Reg x ∷ params) [] env actions is = subst (AllName (is_cell s)) (some_is is) tt
   datas_within given registers (param.Ctl x ∷ params) (e ∷ es) env actions is = datas_within given registers params es env actions is
   datas_within given registers (param.Reg x ∷ params) (e ∷ es) env actions is =
-      gave (slot given x) (term registers e env) (data_arguments s given registers params es env) actions is
+      gave (slot given x) (of_registers registers e env) (data_arguments s given registers params es env) actions is
       (λ more at. datas_within given registers params es env more at)
 
   none_within : AllName (is_cell s) []

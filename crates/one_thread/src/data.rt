@@ -1,10 +1,9 @@
 // Data statements.
-ghost use Rattle.std.specs.Prelude.{◌≡◌, ℤ, ◌≤◌, List, map, is_some, option_map, unwrap_or, position, pos, IfOk, OnOk, Some};
+ghost use Rattle.std.specs.Prelude.{◌≡◌, ℤ, ◌≤◌, List, map, is_some, option_map, unwrap_or, position, pos, zip, IfOk, OnOk, Some};
 ghost use Rattle.std.specs.Ordering.{int_eq};
 ghost use Rattle.task_ast.specs.meaning.Names.{slot, is_name, records_of, cells_in, cell_number};
-ghost use Rattle.task_ast.specs.meaning.Value.{value_at};
-ghost use Rattle.task_ast.specs.meaning.Action.{term, terms, register};
-ghost use Rattle.task_ast.specs.meaning.Effect.{term_value, terms_value};
+ghost use Rattle.task_ast.specs.meaning.Value.{value, value_at, value_on};
+ghost use Rattle.task_ast.specs.meaning.Action.{of_registers};
 ghost use Rattle.task_ast.specs.meaning.Control.{action, arm, all_of};
 ghost use Rattle.task_ast.specs.View.{plain_expr, plain_exprs, plain_links, plain_what, plain_stmts, plain_block};
 ghost use Rattle.task_ast.specs.meaning.Tree.{Name as PlainName};
@@ -53,14 +52,15 @@ fn variable_value(env: &Env, x: &Name) -> i64
 
 /// Whether an expression names no cell outside its feed.
 pub fn has_value(e: &Expr, env: &Env) -> bool
-    ensures { (registers : List PlainName) → result ≡ is_some (term registers (plain_expr e.now) env.now) }
+    ensures { (registers : List PlainName) → result ≡ is_some (of_registers registers (plain_expr e.now) env.now) }
 {
     eval_d(e, env).is_some()
 }
 
 /// The value of a data variable, or 0 where there is none of this name.
+#[tactic(auto, using(task_ast::proofs::Terms::register_value))]
 pub fn register_value(names: &[Name], x: &Name, registers: &[i64]) -> i64
-    ensures { result ≡ term_value (register (position (is_name x.now) names.now)) registers.now }
+    ensures { result ≡ value_at (zip names.now registers.now) x.now }
 {
     match register_place(names, x) {
         Some(k) => number_at(registers, k),
@@ -69,17 +69,24 @@ pub fn register_value(names: &[Name], x: &Name, registers: &[i64]) -> i64
 }
 
 /// The value of an expression that may name data variables. Cells of feeds are read by control values alone.
-#[cycle(values)]
-#[tactic(auto, using(task_ast::proofs::Views::view))]
 pub fn data_value(e: &Expr, names: &[Name], env: &Env, registers: &[i64]) -> Option<i64>
-    ensures { result ≡ option_map (λ t. term_value t registers.now) (term names.now (plain_expr e.now) env.now) }
+    ensures { result ≡ option_map (λ t. t registers.now) (of_registers names.now (plain_expr e.now) env.now) }
+{
+    value_in(e, names, env, registers)
+}
+
+// The value of an expression where the data variables have these values.
+#[cycle(values)]
+#[tactic(auto, using(task_ast::proofs::Views::view, task_ast::proofs::Values::value_on_none))]
+fn value_in(e: &Expr, names: &[Name], env: &Env, registers: &[i64]) -> Option<i64>
+    ensures { result ≡ value (plain_expr e.now) (record env.now { regs = zip names.now registers.now }) }
 {
     match e {
         Expr::Reg(x) => Some(register_value(names, x, registers)),
-        Expr::Neg(a) => Some(negate(data_value(a, names, env, registers)?)),
-        Expr::Not(a) => Some(i64::from(data_value(a, names, env, registers)? == 0)),
+        Expr::Neg(a) => Some(negate(value_in(a, names, env, registers)?)),
+        Expr::Not(a) => Some(i64::from(value_in(a, names, env, registers)? == 0)),
         Expr::Chain(first, links) => {
-            let value = data_value(first, names, env, registers)?;
+            let value = value_in(first, names, env, registers)?;
             chain_value(links.as_slice(), value, names, env, registers)
         }
         Expr::Num(_) => eval_d(e, env),
@@ -92,7 +99,7 @@ pub fn data_value(e: &Expr, names: &[Name], env: &Env, registers: &[i64]) -> Opt
 
 // The value of a chain from here on, from the value so far.
 #[cycle(values)]
-#[tactic(auto, using(task_ast::proofs::Views::view))]
+#[tactic(auto, using(task_ast::proofs::Views::view, task_ast::proofs::Values::value_on_none))]
 fn chain_value(
     links: &[(Op, Expr)],
     first: i64,
@@ -100,18 +107,18 @@ fn chain_value(
     env: &Env,
     registers: &[i64],
 ) -> Option<i64>
-    ensures { result ≡ option_map (λ more. terms_value more registers.now first) (terms names.now (plain_links links.now) env.now) }
+    ensures { result ≡ value_on (plain_links links.now) (record env.now { regs = zip names.now registers.now }) (Some first) }
 {
     let mut so_far = first;
     for link in links {
-        so_far = apply(link.0, so_far, data_value(&link.1, names, env, registers)?);
+        so_far = apply(link.0, so_far, value_in(&link.1, names, env, registers)?);
     }
     Some(so_far)
 }
 
 // Whether all of these have values.
 fn have_values(es: &[Expr], env: &Env) -> bool
-    ensures { (registers : List PlainName) → result ≡ is_some (all_of (map (λ e. term registers e env.now) (plain_exprs es.now))) }
+    ensures { (registers : List PlainName) → result ≡ is_some (all_of (map (λ e. of_registers registers e env.now) (plain_exprs es.now))) }
 {
     for e in es {
         if !has_value(e, env) {
@@ -179,7 +186,7 @@ fn line_of<R: Reckon>(
     env: &Env,
     registers: &[i64],
 ) -> Result<Option<Nums>, AllocError>
-    ensures { IfOk result (λ line. line ≡ option_map (map (λ t. term_value t registers.now)) (all_of (map (λ e. term names.now e env.now) (plain_exprs es.now)))) }
+    ensures { IfOk result (λ line. line ≡ option_map (map (λ t. t registers.now)) (all_of (map (λ e. of_registers names.now e env.now) (plain_exprs es.now)))) }
 {
     let mut line = Seq::new(alloc);
     for e in es {

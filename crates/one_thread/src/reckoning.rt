@@ -1,8 +1,7 @@
 // Who evaluates the expressions of a run.
 ghost use Rattle.std.specs.Prelude.{◌≡◌, option_map};
 ghost use Rattle.task_ast.specs.View.{plain_expr};
-ghost use Rattle.task_ast.specs.meaning.Action.{term};
-ghost use Rattle.task_ast.specs.meaning.Effect.{term_value};
+ghost use Rattle.task_ast.specs.meaning.Action.{of_registers};
 ghost use Rattle.task_ast.specs.meaning.Value.{value};
 
 use crate::data::data_value;
@@ -24,7 +23,7 @@ pub trait Reckon {
 
     /// The value of an expression that may name data variables.
     fn of_data(&mut self, e: &Expr, names: &[Name], env: &Env, registers: &[i64]) -> Option<i64>
-        ensures { result ≡ option_map (λ t. term_value t registers.now) (term names.now (plain_expr e.now) env.now) };
+        ensures { result ≡ option_map (λ t. t registers.now) (of_registers names.now (plain_expr e.now) env.now) };
 }
 
 /// Evaluates, and keeps nothing.

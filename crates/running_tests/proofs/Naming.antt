@@ -11,13 +11,13 @@ use Rattle.gp_base.specs.declared.feed.Feed.{Feed}
 use Rattle.task_ast.specs.declared.sync.SyncOp.{SyncOp}
 use Rattle.task_ast.specs.declared.sync.SyncOp.TheVariants as sync
 use Rattle.task_ast.specs.meaning.Names.{place}
-use Rattle.task_ast.specs.meaning.Action.{Term, Action, Arm, Set, Load, Store, Say, Choose, Child, Give, Bring, NoAction, OneAction}
+use Rattle.task_ast.specs.meaning.Action.{OfRegisters, Action, Arm, Set, Load, Store, Say, Choose, Child, Give, Bring, NoAction, OneAction}
 use Rattle.task_ast.specs.meaning.Body.{Step, Silent, Iteration, Act, Stop, Body, follow, stretch, body}
 use Rattle.task_ast.specs.meaning.Control.{all_of}
 use Rattle.task_ast.specs.laws.Keeps.{NamesOnly, ArmNamesOnly, AllName}
 use Rattle.lock_checker.specs.declared.cells.Cells.{Cells}
 use Rattle.task_code.specs.Instructions.{Deed, SetReg, Read, Write, Print, When, Deeds, NoDeeds, Also, Does, Assign, GoOn, Unless, Again, Lock, Unlock, Fork, Join, Barrier, Settle, Do, Instr, At, Calc}
-use Rattle.task_code.specs.Reading.{CalcEnv, Place, begin_actions, calc_term, calc_value, cell_of, code_begins, code_body, code_first, code_size, code_step, deed_action, deeds_arm, either, env_of, fork_arguments, gift_action, given_value, goto, halt, index_at, instr_at, instrs_of, next_place, step_does, step_instr, behind, with_child}
+use Rattle.task_code.specs.Reading.{CalcEnv, Place, begin_actions, calc_of_registers, calc_value, cell_of, code_begins, code_body, code_first, code_size, code_step, deed_action, deeds_arm, either, env_of, fork_arguments, gift_action, given_value, goto, halt, index_at, instr_at, instrs_of, next_place, step_does, step_instr, behind, with_child}
 use Rattle.task_code.specs.Flat.{code_of}
 use Rattle.subthread.specs.declared.task.Work.{Work}
 use Rattle.subthread.specs.declared.task.Task.{Task}
@@ -42,11 +42,11 @@ module _ (most : ℕ) (test : ℕ → Bool) (passes : (c : ℕ) → c < most →
 
   -- ---- a data statement
 
-  set_only : (o : Option Term) (k : ℕ) (a : Action) → option_map (Set k) o ≡ Some a → NamesOnly test a
+  set_only : (o : Option OfRegisters) (k : ℕ) (a : Action) → option_map (Set k) o ≡ Some a → NamesOnly test a
   set_only None k a is = absurd (cc is)
   set_only (Some t) k a is = subst (NamesOnly test) (some_is is) tt
 
-  say_only : (o : Option (List Term)) (a : Action) → option_map Say o ≡ Some a → NamesOnly test a
+  say_only : (o : Option (List OfRegisters)) (a : Action) → option_map Say o ≡ Some a → NamesOnly test a
   say_only None a is = absurd (cc is)
   say_only (Some ts) a is = subst (NamesOnly test) (some_is is) tt
 
@@ -55,13 +55,13 @@ module _ (most : ℕ) (test : ℕ → Bool) (passes : (c : ℕ) → c < most →
   read_only None k a low is = absurd (cc is)
   read_only (Some n) k a low is = subst (NamesOnly test) (some_is is) (low n refl)
 
-  write_only : (o : Option ℕ) (t : Option Term) (a : Action) → ((n : ℕ) → o ≡ Some n → test n ≡ true)
+  write_only : (o : Option ℕ) (t : Option OfRegisters) (a : Action) → ((n : ℕ) → o ≡ Some n → test n ≡ true)
       → option_and_then (λ n. option_map (Store n) t) o ≡ Some a → NamesOnly test a
   write_only None t a low is = absurd (cc is)
   write_only (Some n) None a low is = absurd (cc is)
   write_only (Some n) (Some t) a low is = subst (NamesOnly test) (some_is is) (low n refl)
 
-  when_only : (t : Option Term) (x y : Option Arm) (a : Action) → ((arm : Arm) → x ≡ Some arm → ArmNamesOnly test arm)
+  when_only : (t : Option OfRegisters) (x y : Option Arm) (a : Action) → ((arm : Arm) → x ≡ Some arm → ArmNamesOnly test arm)
       → ((arm : Arm) → y ≡ Some arm → ArmNamesOnly test arm)
       → option_and_then (λ t. option_and_then (λ x. option_map (Choose t x) y) x) t ≡ Some a → NamesOnly test a
   when_only None x y a first second is = absurd (cc is)
@@ -78,14 +78,14 @@ module _ (most : ℕ) (test : ℕ → Bool) (passes : (c : ℕ) → c < most →
 
   mutual
     deed_names : (d : Deed) (env : CalcEnv) (a : Action) → DeedBelow most d → deed_action d env ≡ Some a → NamesOnly test a
-    deed_names (SetReg k c) env a low is = set_only (calc_term c env) k a is
+    deed_names (SetReg k c) env a low is = set_only (calc_of_registers c env) k a is
     deed_names (Read cells i k) env a low is =
         read_only (cell_of cells (index_at i env.ctl)) k a (λ n some. cell_low cells (index_at i env.ctl) n low some) is
     deed_names (Write cells i c) env a low is =
-        write_only (cell_of cells (index_at i env.ctl)) (calc_term c env) a (λ n some. cell_low cells (index_at i env.ctl) n low some) is
-    deed_names (Print cs) env a low is = say_only (all_of (map (λ c. calc_term c env) cs)) a is
+        write_only (cell_of cells (index_at i env.ctl)) (calc_of_registers c env) a (λ n some. cell_low cells (index_at i env.ctl) n low some) is
+    deed_names (Print cs) env a low is = say_only (all_of (map (λ c. calc_of_registers c env) cs)) a is
     deed_names (When c x y) env a low is =
-        when_only (calc_term c env) (deeds_arm x env) (deeds_arm y env) a (λ arm some. arm_names x env arm low.0 some)
+        when_only (calc_of_registers c env) (deeds_arm x env) (deeds_arm y env) a (λ arm some. arm_names x env arm low.0 some)
         (λ arm some. arm_names y env arm low.1 some) is
 
     arm_names : (ds : Deeds) (env : CalcEnv) (arm : Arm) → ArmBelow most ds → deeds_arm ds env ≡ Some arm → ArmNamesOnly test arm
@@ -192,14 +192,14 @@ module _ (most : ℕ) (test : ℕ → Bool) (passes : (c : ℕ) → c < most →
 
   gifts_pass : (gifts : List (ℕ × Calc)) (env : CalcEnv) → AllName test (unwrap_or (all_of (map (λ g. gift_action g env) gifts)) [])
   gifts_pass [] env = tt
-  gifts_pass (g ∷ gifts) env = go (calc_term g.1 env) (all_of (map (λ g. gift_action g env) gifts)) (gifts_pass gifts env)
+  gifts_pass (g ∷ gifts) env = go (calc_of_registers g.1 env) (all_of (map (λ g. gift_action g env) gifts)) (gifts_pass gifts env)
     where
-      more : (t : Term) (r : Option (List Action)) → AllName test (unwrap_or r [])
+      more : (t : OfRegisters) (r : Option (List Action)) → AllName test (unwrap_or r [])
           → AllName test (unwrap_or (option_map (λ all. Give g.0 t ∷ all) r) [])
       more t None none = tt
       more t (Some actions) none = (tt, none)
 
-      go : (t : Option Term) (r : Option (List Action)) → AllName test (unwrap_or (all_of (map (λ g. gift_action g env) gifts)) [])
+      go : (t : Option OfRegisters) (r : Option (List Action)) → AllName test (unwrap_or (all_of (map (λ g. gift_action g env) gifts)) [])
           → AllName test (unwrap_or (all_of (option_map (Give g.0) t ∷ map (λ g. gift_action g env) gifts)) [])
       go None r none = tt
       go (Some t) r none = more t (all_of (map (λ g. gift_action g env) gifts)) none

@@ -7,11 +7,11 @@ use Rattle.std.specs.BTreeSet.{insert_key}
 use Rattle.gp_base.specs.declared.feed.Feed.{Feed}
 use Rattle.task_ast.specs.declared.sync.SyncOp.{SyncOp}
 use Rattle.task_ast.specs.declared.sync.SyncOp.TheVariants as sync
-use Rattle.task_ast.specs.meaning.Action.{Term, Action, Set, Load, Store, Say, Child, Give, Arm}
+use Rattle.task_ast.specs.meaning.Action.{OfRegisters, Action, Set, Load, Store, Say, Child, Give, Arm}
 use Rattle.task_ast.specs.meaning.Control.{all_of}
 use Rattle.task_ast.specs.meaning.Footprint.{with_cell, Named, naming, arm_naming, all_naming}
 use Rattle.task_code.specs.Instructions.{Instr, At, Assign, GoOn, Unless, Again, Lock, Unlock, Fork, Join, Barrier, Settle, Do, Calc}
-use Rattle.task_code.specs.Reading.{CalcEnv, Place, begin_actions, calc_term, calc_value, code_first, env_of, gift_action, instr_at}
+use Rattle.task_code.specs.Reading.{CalcEnv, Place, begin_actions, calc_of_registers, calc_value, code_first, env_of, gift_action, instr_at}
 use Rattle.subthread.specs.inner.Running.{Notes, ArmNotes}
 use Rattle.task_ast.proofs.Arms.{chosen, some_is}
 
@@ -29,11 +29,11 @@ inserted c (d ∷ cells) = go (nat_lt c d) (nat_eq c d) (inserted c cells)
 
 -- ---- one statement
 
-pub set_noted : (o : Option Term) (k : ℕ) (n : Named) → Notes (option_map (Set k) o) n n
+pub set_noted : (o : Option OfRegisters) (k : ℕ) (n : Named) → Notes (option_map (Set k) o) n n
 set_noted None k n a is = absurd (cc is)
 set_noted (Some t) k n a is = ap (λ x. naming x n) (some_is is)
 
-pub said_noted : (o : Option (List Term)) (n : Named) → Notes (option_map Say o) n n
+pub said_noted : (o : Option (List OfRegisters)) (n : Named) → Notes (option_map Say o) n n
 said_noted None n a is = absurd (cc is)
 said_noted (Some ts) n a is = ap (λ x. naming x n) (some_is is)
 
@@ -47,19 +47,19 @@ pub none_read : (o : Option ℕ) (k : ℕ) (n : Named) → None ≡ o → Notes 
 none_read None k n none a is = absurd (cc is)
 none_read (Some c) k n none a is = absurd (cc none)
 
-pub write_noted : (o : Option ℕ) (t : Option Term) (cell : ℕ) (n : Named) → Some cell ≡ o
+pub write_noted : (o : Option ℕ) (t : Option OfRegisters) (cell : ℕ) (n : Named) → Some cell ≡ o
     → Notes (option_and_then (λ c. option_map (Store c) t) o) n (record n { writes = with_cell cell n.writes })
 write_noted None t cell n there a is = absurd (cc there)
 write_noted (Some c) None cell n there a is = absurd (cc is)
 write_noted (Some c) (Some t) cell n there a is =
     ap (λ x. record n { writes = with_cell x n.writes }) (some_is there) ∙ ap (λ x. naming x n) (some_is is)
 
-pub none_written : (o : Option ℕ) (t : Option Term) (n : Named) → None ≡ o → Notes (option_and_then (λ c. option_map (Store c) t) o) n n
+pub none_written : (o : Option ℕ) (t : Option OfRegisters) (n : Named) → None ≡ o → Notes (option_and_then (λ c. option_map (Store c) t) o) n n
 none_written None t n none a is = absurd (cc is)
 none_written (Some c) t n none a is = absurd (cc none)
 
 -- of a choice both arms
-pub both_noted : (t : Option Term) (a b : Option Arm) (old between new : Named) → ArmNotes a old between → ArmNotes b between new
+pub both_noted : (t : Option OfRegisters) (a b : Option Arm) (old between new : Named) → ArmNotes a old between → ArmNotes b between new
     → Notes (chosen t a b) old new
 both_noted None a b old between new first second act is = absurd (cc is)
 both_noted (Some t) None b old between new first second act is = absurd (cc is)
@@ -77,14 +77,14 @@ both_named (a ∷ first) second n = both_named first second (naming a n)
 gifts_name : (gifts : List (ℕ × Calc)) (env : CalcEnv) (n : Named)
     → all_naming (unwrap_or (all_of (map (λ g. gift_action g env) gifts)) []) n ≡ n
 gifts_name [] env n = refl
-gifts_name (g ∷ gifts) env n = go (calc_term g.1 env) (all_of (map (λ g. gift_action g env) gifts)) (gifts_name gifts env n)
+gifts_name (g ∷ gifts) env n = go (calc_of_registers g.1 env) (all_of (map (λ g. gift_action g env) gifts)) (gifts_name gifts env n)
   where
-    more : (t : Term) (r : Option (List Action)) → all_naming (unwrap_or r []) n ≡ n
+    more : (t : OfRegisters) (r : Option (List Action)) → all_naming (unwrap_or r []) n ≡ n
         → all_naming (unwrap_or (option_map (λ all. Give g.0 t ∷ all) r) []) n ≡ n
     more t None none = refl
     more t (Some actions) none = none
 
-    go : (t : Option Term) (r : Option (List Action)) → all_naming (unwrap_or (all_of (map (λ g. gift_action g env) gifts)) []) n ≡ n
+    go : (t : Option OfRegisters) (r : Option (List Action)) → all_naming (unwrap_or (all_of (map (λ g. gift_action g env) gifts)) []) n ≡ n
         → all_naming (unwrap_or (all_of (option_map (Give g.0) t ∷ map (λ g. gift_action g env) gifts)) []) n ≡ n
     go None r none = refl
     go (Some t) r none = more t (all_of (map (λ g. gift_action g env) gifts)) none

@@ -81,15 +81,20 @@ module _ (registers : List (Name × ℤ)) where
         some_are links env (operate_on op a (value e (with_data env))) (operate_on op b (value e env))
         (both_some op a (value e (with_data env)) ∙ ((λ i. same i && some_is e env i) ∙ sym (both_some op b (value e env))))
 
--- the value at these registers
-pub value_is : (names : List Name) (values : List ℤ) (e : Expr) (env : Env)
-    → value e (record env { regs = zip names values }) ≡ option_map (λ f. f values) (of_registers names e env)
-value_is names values e env = go (value e (record env { regs = zip names values })) refl (value e env) (some_is (zip names values) e env)
+-- the value at these registers of a function of the registers, which has one for all or for none
+pub function_value : (at : List ℤ → Option ℤ) (other : Option ℤ) (values : List ℤ) → is_some (at values) ≡ is_some other
+    → at values ≡ option_map (λ (f : OfRegisters). f values) (option_map (λ _ registers. unwrap_or (at registers) (pos 0)) other)
+function_value at other values same = go (at values) refl other same
   where
-    go : (o : Option ℤ) → value e (record env { regs = zip names values }) ≡ o → (other : Option ℤ) → is_some o ≡ is_some other
-        → o ≡ option_map (λ (f : OfRegisters). f values)
-        (option_map (λ _ registers. unwrap_or (value e (record env { regs = zip names registers })) (pos 0)) other)
+    go : (o : Option ℤ) → at values ≡ o → (other : Option ℤ) → is_some o ≡ is_some other
+        → o ≡ option_map (λ (f : OfRegisters). f values) (option_map (λ _ registers. unwrap_or (at registers) (pos 0)) other)
     go None is None same = refl
     go (Some a) is (Some b) same = ap Some (ap (λ o. unwrap_or o (pos 0)) (sym is))
     go None is (Some b) same = absurd (false≢true same)
     go (Some a) is None same = absurd (false≢true (sym same))
+
+-- an expression has the value of its function
+pub value_is : (names : List Name) (values : List ℤ) (e : Expr) (env : Env)
+    → value e (record env { regs = zip names values }) ≡ option_map (λ f. f values) (of_registers names e env)
+value_is names values e env =
+    function_value (λ values. value e (record env { regs = zip names values })) (value e env) values (some_is (zip names values) e env)

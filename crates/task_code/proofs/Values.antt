@@ -18,12 +18,12 @@ use Rattle.task_ast.specs.Names.{seconds}
 use Rattle.task_ast.specs.Layout.{base_of}
 use Rattle.task_ast.specs.meaning.State.{number_at}
 use Rattle.task_ast.specs.meaning.Value.{value, value_on, value_at, operate_on, cell_in}
-use Rattle.task_ast.specs.meaning.Action.{Term, Constant, Negated, Inverted, Joined, OneTerm, register, term, terms, Action, Set, Load, Store, Say, Choose, Child, Give, OneAction}
+use Rattle.task_ast.specs.meaning.Action.{OfRegisters, of_registers, Action, Set, Load, Store, Say, Choose, Child, Give, OneAction}
 use Rattle.task_ast.specs.meaning.Control.{Setting, index_of, all_of, action, arm, action_of, control_arguments, data_arguments}
-use Rattle.task_ast.proofs.Terms.{position-cons}
+use Rattle.task_ast.proofs.Terms.{position-cons, register_value}
 use Rattle.lock_checker.specs.Cells.{cells_of}
 use Rattle.task_code.specs.Instructions.{Calc}
-use Rattle.task_code.specs.Reading.{CalcEnv, calc_value, calc_value_on, calc_term, calc_terms, index_at, cell_of, deed_action, deeds_arm, gift_action}
+use Rattle.task_code.specs.Reading.{CalcEnv, calc_value, calc_value_on, calc_of_registers, index_at, cell_of, deed_action, deeds_arm, gift_action}
 use Rattle.task_code.specs.Reading as code
 use Rattle.task_code.specs.Lowering.{Scope, register_calc, rows_calc, cell_calc, calc, operands_of, index, deed, deed_in, control_calcs, gifts, forking}
 use Rattle.task_code.specs.Lowering as lowering
@@ -137,89 +137,81 @@ module _ (program : Program) (feeds : List Feed) (controls registers : List Name
   env = record { names = names; regs = []; me = me; feeds = zip (feeds_of program.heads) feeds }
 
   abbrev there : CalcEnv
-  there = record { ctl = ctl; me = number; feeds = feeds }
+  there = record { ctl = ctl; registers = []; me = number; feeds = feeds }
 
   at_slot : (x : Name) → value_at names x ≡ number_at ctl (slot controls x)
   at_slot x =
       value_by_number names x ∙ ap (λ l. number_at (seconds names) (slot l x)) names_are
       ∙ ap (λ values. number_at values (slot controls x)) (sym values_are)
 
-  register_value : (o : Option ℕ) → Some (pos 0) ≡ calc_value (register_calc o) there
-  register_value None = refl
-  register_value (Some k) = refl
+  -- data variables that have the values of these registers
+  abbrev Reads : List (Name × ℤ) → List ℤ → Type 0
+  Reads regs values = (x : Name) → value_at regs x ≡ unwrap_or (option_map (number_at values) (position (is_name x) registers)) (pos 0)
 
-  rows_value : (o : Option ℕ)
-      → Some (pos (unwrap_or (option_map rows_in (option_and_then (slice_get feeds) o)) 0)) ≡ calc_value (rows_calc o) there
-  rows_value None = refl
-  rows_value (Some k) = refl
+  no_registers : Reads [] []
+  no_registers x = go (position (is_name x) registers)
+    where
+      go : (o : Option ℕ) → pos 0 ≡ unwrap_or (option_map (number_at []) o) (pos 0)
+      go None = refl
+      go (Some k) = refl
 
-  cell_value : (o : Option ℕ) (row field : Calc)
-      → cell_in (option_and_then (slice_get feeds) o) (calc_value row there) (calc_value field there)
-      ≡ calc_value (cell_calc o row field) there
-  cell_value None row field = no_cell (calc_value row there) (calc_value field there)
-  cell_value (Some k) row field = refl
+  module _ (values : List ℤ) where
+    abbrev at : CalcEnv
+    at = record there { registers = values }
+
+    register_at : (o : Option ℕ) → Some (unwrap_or (option_map (number_at values) o) (pos 0)) ≡ calc_value (register_calc o) at
+    register_at None = refl
+    register_at (Some k) = refl
+
+    rows_value : (o : Option ℕ)
+        → Some (pos (unwrap_or (option_map rows_in (option_and_then (slice_get feeds) o)) 0)) ≡ calc_value (rows_calc o) at
+    rows_value None = refl
+    rows_value (Some k) = refl
+
+    cell_value : (o : Option ℕ) (row field : Calc)
+        → cell_in (option_and_then (slice_get feeds) o) (calc_value row there) (calc_value field there)
+        ≡ calc_value (cell_calc o row field) at
+    cell_value None row field = no_cell (calc_value row there) (calc_value field there)
+    cell_value (Some k) row field = refl
 
   mutual
-    pub same_value : (e : Expr) → value e env ≡ calc_value (calc sc e) there
-    same_value (tree.Num v) = refl
-    same_value (tree.Ctl x) = ap Some (at_slot x)
-    same_value (tree.Reg x) = register_value (position (is_name x) registers)
-    same_value tree.Me = ap (λ n. Some (pos n)) (sym number_is)
-    same_value (tree.Rows f) =
+    same_with : (e : Expr) (regs : List (Name × ℤ)) (values : List ℤ) → Reads regs values
+        → value e (record env { regs = regs }) ≡ calc_value (calc sc e) (record there { registers = values })
+    same_with (tree.Num v) regs values reads = refl
+    same_with (tree.Ctl x) regs values reads = ap Some (at_slot x)
+    same_with (tree.Reg x) regs values reads = ap Some (reads x) ∙ register_at values (position (is_name x) registers)
+    same_with tree.Me regs values reads = ap (λ n. Some (pos n)) (sym number_is)
+    same_with (tree.Rows f) regs values reads =
         ap (λ o. Some (pos (unwrap_or (option_map rows_in o) 0))) (feed_by_number (feeds_of program.heads) feeds f)
-        ∙ rows_value (position (is_name f) (feeds_of program.heads))
-    same_value (tree.Cell f row field) =
+        ∙ rows_value values (position (is_name f) (feeds_of program.heads))
+    same_with (tree.Cell f row field) regs values reads =
         ap (λ o. cell_in o (value row env) (value field env)) (feed_by_number (feeds_of program.heads) feeds f)
         ∙ ap (λ v. cell_in (option_and_then (slice_get feeds) (position (is_name f) (feeds_of program.heads))) v (value field env))
-        (same_value row)
+        (same_with row [] [] no_registers)
         ∙ ap (cell_in (option_and_then (slice_get feeds) (position (is_name f) (feeds_of program.heads))) (calc_value (calc sc row) there))
-        (same_value field)
-        ∙ cell_value (position (is_name f) (feeds_of program.heads)) (calc sc row) (calc sc field)
-    same_value (tree.Neg e) = ap (option_map _) (same_value e)
-    same_value (tree.Not e) = ap (option_map _) (same_value e)
-    same_value (tree.Chain e links) = ap (value_on links env) (same_value e) ∙ same_value_on links (calc_value (calc sc e) there)
+        (same_with field [] [] no_registers)
+        ∙ cell_value values (position (is_name f) (feeds_of program.heads)) (calc sc row) (calc sc field)
+    same_with (tree.Neg e) regs values reads = ap (option_map _) (same_with e regs values reads)
+    same_with (tree.Not e) regs values reads = ap (option_map _) (same_with e regs values reads)
+    same_with (tree.Chain e links) regs values reads =
+        ap (value_on links (record env { regs = regs })) (same_with e regs values reads)
+        ∙ same_with_on links regs values reads (calc_value (calc sc e) (record there { registers = values }))
 
-    same_value_on : (links : Links) (so_far : Option ℤ) → value_on links env so_far ≡ calc_value_on (operands_of sc links) there so_far
-    same_value_on tree.NoLinks so_far = refl
-    same_value_on (tree.Link op e links) so_far =
-        ap (λ v. value_on links env (operate_on op so_far v)) (same_value e)
-        ∙ same_value_on links (operate_on op so_far (calc_value (calc sc e) there))
+    same_with_on : (links : Links) (regs : List (Name × ℤ)) (values : List ℤ) → Reads regs values → (so_far : Option ℤ)
+        → value_on links (record env { regs = regs }) so_far ≡ calc_value_on (operands_of sc links) (record there { registers = values }) so_far
+    same_with_on tree.NoLinks regs values reads so_far = refl
+    same_with_on (tree.Link op e links) regs values reads so_far =
+        ap (λ v. value_on links (record env { regs = regs }) (operate_on op so_far v)) (same_with e regs values reads)
+        ∙ same_with_on links regs values reads (operate_on op so_far (calc_value (calc sc e) (record there { registers = values })))
 
-  register_term : (o : Option ℕ) → Some (register o) ≡ calc_term (register_calc o) there
-  register_term None = refl
-  register_term (Some k) = refl
+  pub same_value : (e : Expr) → value e env ≡ calc_value (calc sc e) there
+  same_value e = same_with e [] [] no_registers
 
-  rows_term : (o : Option ℕ) → option_map Constant (calc_value (rows_calc o) there) ≡ calc_term (rows_calc o) there
-  rows_term None = refl
-  rows_term (Some k) = refl
-
-  cell_term : (o : Option ℕ) (row field : Calc)
-      → option_map Constant (calc_value (cell_calc o row field) there) ≡ calc_term (cell_calc o row field) there
-  cell_term None row field = refl
-  cell_term (Some k) row field = refl
-
-  mutual
-    pub same_term : (e : Expr) → term registers e env ≡ calc_term (calc sc e) there
-    same_term (tree.Num v) = refl
-    same_term (tree.Ctl x) = ap (λ v. Some (Constant v)) (at_slot x)
-    same_term (tree.Reg x) = register_term (position (is_name x) registers)
-    same_term tree.Me = ap (λ n. Some (Constant (pos n))) (sym number_is)
-    same_term (tree.Rows f) =
-        ap (option_map Constant) (same_value (tree.Rows f)) ∙ rows_term (position (is_name f) (feeds_of program.heads))
-    same_term (tree.Cell f row field) =
-        ap (option_map Constant) (same_value (tree.Cell f row field))
-        ∙ cell_term (position (is_name f) (feeds_of program.heads)) (calc sc row) (calc sc field)
-    same_term (tree.Neg e) = ap (option_map Negated) (same_term e)
-    same_term (tree.Not e) = ap (option_map Inverted) (same_term e)
-    same_term (tree.Chain e links) =
-        ap (option_and_then (λ t. option_map (Joined t) (terms registers links env))) (same_term e)
-        ∙ ap (λ more. option_and_then (λ t. option_map (Joined t) more) (calc_term (calc sc e) there)) (same_terms links)
-
-    same_terms : (links : Links) → terms registers links env ≡ calc_terms (operands_of sc links) there
-    same_terms tree.NoLinks = refl
-    same_terms (tree.Link op e links) =
-        ap (option_and_then (λ t. option_map (OneTerm op t) (terms registers links env))) (same_term e)
-        ∙ ap (λ more. option_and_then (λ t. option_map (OneTerm op t) more) (calc_term (calc sc e) there)) (same_terms links)
+  pub same_function : (e : Expr) → of_registers registers e env ≡ calc_of_registers (calc sc e) there
+  same_function e =
+      λ i. option_map
+      (λ _ values. unwrap_or (same_with e (zip registers values) values (λ x. register_value registers values x) i) (pos 0))
+      (same_value e i)
 
   pub same_index : (i : Atom) → index_of i env ≡ index_at (index sc i) ctl
   same_index (atom.Num v) = refl
@@ -232,27 +224,27 @@ module _ (program : Program) (feeds : List Feed) (controls registers : List Name
 
   -- ---- data statements
 
-  same_all : (es : List Expr) → map (λ e. term registers e env) es ≡ map (λ c. calc_term c there) (map (calc sc) es)
+  same_all : (es : List Expr) → map (λ e. of_registers registers e env) es ≡ map (λ c. calc_of_registers c there) (map (calc sc) es)
   same_all [] = refl
   same_all (e ∷ es) =
-      ap (λ t. t ∷ map (λ e. term registers e env) es) (same_term e) ∙ ap (λ l. calc_term (calc sc e) there ∷ l) (same_all es)
+      ap (λ t. t ∷ map (λ e. of_registers registers e env) es) (same_function e) ∙ ap (λ l. calc_of_registers (calc sc e) there ∷ l) (same_all es)
 
   mutual
     pub same_action : (w : What) → action s registers w env ≡ deed_action (deed sc w) there
-    same_action (tree.SetReg x e) = ap (option_map (Set (slot registers x))) (same_term e)
+    same_action (tree.SetReg x e) = ap (option_map (Set (slot registers x))) (same_function e)
     same_action (tree.Read r i x) = ap (option_map (λ n. Load n (slot registers x))) (same_cell (records_of program.heads) r i)
     same_action (tree.Write r i e) =
-        ap (option_and_then (λ n. option_map (Store n) (term registers e env))) (same_cell (records_of program.heads) r i)
+        ap (option_and_then (λ n. option_map (Store n) (of_registers registers e env))) (same_cell (records_of program.heads) r i)
         ∙ ap (λ t. option_and_then (λ n. option_map (Store n) t)
-        (cell_of (cells_of (records_of program.heads) r) (index_at (index sc i) ctl))) (same_term e)
+        (cell_of (cells_of (records_of program.heads) r) (index_at (index sc i) ctl))) (same_function e)
     same_action (tree.Print es) = ap (λ ts. option_map Say (all_of ts)) (same_all es)
     same_action (tree.When e a b) =
         ap (option_and_then (λ t. option_and_then (λ x. option_map (Choose t x) (arm s registers b env)) (arm s registers a env)))
-        (same_term e)
+        (same_function e)
         ∙ ap (λ first. option_and_then (λ t. option_and_then (λ x. option_map (Choose t x) (arm s registers b env)) first)
-        (calc_term (calc sc e) there)) (same_arm a)
+        (calc_of_registers (calc sc e) there)) (same_arm a)
         ∙ ap (λ second. option_and_then (λ t. option_and_then (λ x. option_map (Choose t x) second) (deeds_arm (lowering.arm sc a) there))
-        (calc_term (calc sc e) there)) (same_arm b)
+        (calc_of_registers (calc sc e) there)) (same_arm b)
     same_action (tree.SetCtl x e) = refl
     same_action (tree.While e b) = refl
     same_action (tree.If e a b) = refl
@@ -285,7 +277,7 @@ module _ (program : Program) (feeds : List Feed) (controls registers : List Name
       ∙ sym (all_of-cons (calc_value (calc sc e) there) (map (λ c. calc_value c there) (control_calcs sc params es)))
   same_controls (param.Reg x ∷ params) (e ∷ es) = same_controls params es
 
-  one_gift : (k : ℕ) (o : Option Term) (rest : Option (List Action)) (os : List (Option Action)) → rest ≡ all_of os
+  one_gift : (k : ℕ) (o : Option OfRegisters) (rest : Option (List Action)) (os : List (Option Action)) → rest ≡ all_of os
       → option_and_then (λ t. option_map (λ actions. Give k t ∷ actions) rest) o ≡ all_of (option_map (Give k) o ∷ os)
   one_gift k None rest os is = refl
   one_gift k (Some t) rest os is = ap (option_map (λ actions. Give k t ∷ actions)) is
@@ -298,8 +290,8 @@ module _ (program : Program) (feeds : List Feed) (controls registers : List Name
   same_gifts given (param.Ctl x ∷ params) (e ∷ es) = same_gifts given params es
   same_gifts given (param.Reg x ∷ params) (e ∷ es) =
       ap (option_and_then (λ t. option_map (λ actions. Give (slot given x) t ∷ actions) (data_arguments s given registers params es env)))
-      (same_term e)
-      ∙ one_gift (slot given x) (calc_term (calc sc e) there) (data_arguments s given registers params es env)
+      (same_function e)
+      ∙ one_gift (slot given x) (calc_of_registers (calc sc e) there) (data_arguments s given registers params es env)
       (map (λ g. gift_action g there) (gifts sc given params es)) (same_gifts given params es)
 
   -- the arguments of a fork of a task that may be there

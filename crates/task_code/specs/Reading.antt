@@ -11,7 +11,7 @@ use Rattle.task_ast.specs.meaning.Names.{place}
 use Rattle.task_ast.specs.Names.{seconds}
 use Rattle.task_ast.specs.meaning.State.{number_at}
 use Rattle.task_ast.specs.meaning.Value.{truth, is_zero, operate_on, cell_in}
-use Rattle.task_ast.specs.meaning.Action.{Term, Constant, Register, Negated, Inverted, Joined, MoreTerms, NoTerms, OneTerm, Action, Set, Load, Store, Say, Choose, Child, Give, Bring, Arm, NoAction, OneAction}
+use Rattle.task_ast.specs.meaning.Action.{OfRegisters, Action, Set, Load, Store, Say, Choose, Child, Give, Bring, Arm, NoAction, OneAction}
 use Rattle.task_ast.specs.meaning.Body.{Step, Silent, Iteration, Act, Stop, Body, body}
 use Rattle.task_ast.specs.meaning.Control.{all_of}
 use Rattle.task_ast.specs.meaning.Plain.{task_at, start_point}
@@ -21,21 +21,23 @@ use Rattle.task_code.specs.declared.instrs.Index.{Index}
 use Rattle.task_code.specs.declared.instrs.Index.TheVariants.{Number, Variable}
 use Rattle.task_code.specs.Instructions.{Calc, Const, Ctl, Reg, Me, Rows, Cell, Neg, Not, Chain, NoValue, Operands, NoOperands, Operand, Deed, SetReg, Read, Write, Print, When, Deeds, NoDeeds, Also, Forking, Does, Assign, GoOn, Unless, Again, Lock, Unlock, Fork, Join, Barrier, Settle, Do, Instr, At, Lowered}
 
--- what a control expression of code is read under: the control variables, the thread's number, the feeds in declared order
+-- what an expression of code is read under: the control variables, the registers, the thread's number, the feeds in declared order
 pub record CalcEnv : Type 0 where
   pub ctl : List ℤ
+  pub registers : List ℤ
   pub me : ℕ
   pub feeds : List Feed
 
 abbrev mutual
-  -- the value of an expression, in which registers count as 0; none where it names a cell outside its feed
+  -- the value of an expression; none where it names a cell outside its feed; the place of a cell is read without registers
   pub calc_value : Calc → CalcEnv → Option ℤ
   calc_value (Const v) env = Some v
   calc_value (Ctl k) env = Some (number_at env.ctl k)
-  calc_value (Reg k) env = Some (pos 0)
+  calc_value (Reg k) env = Some (number_at env.registers k)
   calc_value Me env = Some (pos env.me)
   calc_value (Rows f) env = Some (pos (unwrap_or (option_map rows_in (slice_get env.feeds f)) 0))
-  calc_value (Cell f row field) env = cell_in (slice_get env.feeds f) (calc_value row env) (calc_value field env)
+  calc_value (Cell f row field) env =
+      let control = record env { registers = [] } in cell_in (slice_get env.feeds f) (calc_value row control) (calc_value field control)
   calc_value (Neg c) env = option_map (λ v. int_wrap w64 (neg_ℤ v)) (calc_value c env)
   calc_value (Not c) env = option_map (λ v. truth (is_zero v)) (calc_value c env)
   calc_value (Chain c more) env = calc_value_on more env (calc_value c env)
@@ -46,24 +48,9 @@ abbrev mutual
   calc_value_on NoOperands env so_far = so_far
   calc_value_on (Operand op c more) env so_far = calc_value_on more env (operate_on op so_far (calc_value c env))
 
-abbrev mutual
-  -- what is left of an expression for the data: control values and cells looked up, registers by their numbers
-  pub calc_term : Calc → CalcEnv → Option Term
-  calc_term (Const v) env = Some (Constant v)
-  calc_term (Ctl k) env = Some (Constant (number_at env.ctl k))
-  calc_term (Reg k) env = Some (Register k)
-  calc_term Me env = Some (Constant (pos env.me))
-  calc_term (Rows f) env = option_map Constant (calc_value (Rows f) env)
-  calc_term (Cell f row field) env = option_map Constant (calc_value (Cell f row field) env)
-  calc_term (Neg c) env = option_map Negated (calc_term c env)
-  calc_term (Not c) env = option_map Inverted (calc_term c env)
-  calc_term (Chain c more) env = option_and_then (λ t. option_map (Joined t) (calc_terms more env)) (calc_term c env)
-  calc_term NoValue env = None
-
-  -- the further members of a chain likewise
-  pub calc_terms : Operands → CalcEnv → Option MoreTerms
-  calc_terms NoOperands env = Some NoTerms
-  calc_terms (Operand op c more) env = option_and_then (λ t. option_map (OneTerm op t) (calc_terms more env)) (calc_term c env)
+-- the value of an expression with its control values and cells looked up, from the registers
+abbrev pub calc_of_registers : Calc → CalcEnv → Option OfRegisters
+calc_of_registers c env = option_map (λ _ values. unwrap_or (calc_value c (record env { registers = values })) (pos 0)) (calc_value c env)
 
 -- the number that an index stands for
 abbrev pub index_at : Index → List ℤ → ℤ
@@ -77,12 +64,12 @@ cell_of cells index = option_map (λ n. cells.first + n) (place cells.size index
 abbrev mutual
   -- the action of a data statement
   pub deed_action : Deed → CalcEnv → Option Action
-  deed_action (SetReg k c) env = option_map (Set k) (calc_term c env)
+  deed_action (SetReg k c) env = option_map (Set k) (calc_of_registers c env)
   deed_action (Read cells i k) env = option_map (λ n. Load n k) (cell_of cells (index_at i env.ctl))
-  deed_action (Write cells i c) env = option_and_then (λ n. option_map (Store n) (calc_term c env)) (cell_of cells (index_at i env.ctl))
-  deed_action (Print cs) env = option_map Say (all_of (map (λ c. calc_term c env) cs))
+  deed_action (Write cells i c) env = option_and_then (λ n. option_map (Store n) (calc_of_registers c env)) (cell_of cells (index_at i env.ctl))
+  deed_action (Print cs) env = option_map Say (all_of (map (λ c. calc_of_registers c env) cs))
   deed_action (When c a b) env =
-      option_and_then (λ t. option_and_then (λ x. option_map (Choose t x) (deeds_arm b env)) (deeds_arm a env)) (calc_term c env)
+      option_and_then (λ t. option_and_then (λ x. option_map (Choose t x) (deeds_arm b env)) (deeds_arm a env)) (calc_of_registers c env)
 
   -- the actions of an arm
   pub deeds_arm : Deeds → CalcEnv → Option Arm
@@ -91,7 +78,7 @@ abbrev mutual
 
 -- the action that gives a child one of its data arguments
 abbrev pub gift_action : ℕ × Calc → CalcEnv → Option Action
-gift_action g env = option_map (Give g.0) (calc_term g.1 env)
+gift_action g env = option_map (Give g.0) (calc_of_registers g.1 env)
 
 -- the arguments of a fork: the control values, and the actions that make the child's registers
 abbrev pub fork_arguments : Forking → CalcEnv → Option (List ℤ × List Action)
@@ -137,7 +124,7 @@ with_child _ _ q = q
 module _ (feeds : List Feed) where
   -- what the expressions of a place are read under
   abbrev pub env_of : Place → CalcEnv
-  env_of q = record { ctl = q.ctl; me = q.me; feeds = feeds }
+  env_of q = record { ctl = q.ctl; registers = []; me = q.me; feeds = feeds }
 
   -- the step at an instruction
   abbrev pub step_does : (line : ℕ) → Does → Place → Step Place

@@ -3,7 +3,6 @@ use Rattle.std.specs.Prelude.{◌≡◌, zero, suc, ℤ, pos, negsuc, List, [], 
 use Rattle.task_ast.specs.declared.env.Env.{Env}
 use Rattle.task_ast.specs.meaning.Action.{Action, Set, Load, Store, Say, Choose, Child, Give, Bring, Arm, NoAction, OneAction}
 use Rattle.task_ast.specs.meaning.State.{number_at}
-use Rattle.task_ast.specs.meaning.Effect.{term_value}
 use Rattle.task_ast.specs.meaning.Footprint.{Named, naming, arm_naming}
 use Rattle.task_ast.specs.meaning.Control.{Setting}
 use Rattle.task_ast.specs.View.{plain_program}
@@ -21,13 +20,13 @@ module _ (joined : ℤ) where
   abbrev mutual
     -- the data after one action
     pub worked : Action → Data → Data
-    worked (Set k t) d = record d { registers = slice_set d.registers k (term_value t d.registers) }
+    worked (Set k t) d = record d { registers = slice_set d.registers k (t d.registers) }
     worked (Load c k) d = record d { registers = slice_set d.registers k (number_at d.cells c) }
-    worked (Store c t) d = record d { cells = slice_set d.cells c (term_value t d.registers) }
-    worked (Say ts) d = record d { lines = d.lines ++ map (λ t. term_value t d.registers) ts ∷ [] }
-    worked (Choose t a b) d = first_unless (term_value t d.registers) (arm_worked a d) (arm_worked b d)
+    worked (Store c t) d = record d { cells = slice_set d.cells c (t d.registers) }
+    worked (Say ts) d = record d { lines = d.lines ++ map (λ t. t d.registers) ts ∷ [] }
+    worked (Choose t a b) d = first_unless (t d.registers) (arm_worked a d) (arm_worked b d)
     worked (Child count) d = record d { child = replicate count (pos 0) }
-    worked (Give k t) d = record d { child = slice_set d.child k (term_value t d.registers) }
+    worked (Give k t) d = record d { child = slice_set d.child k (t d.registers) }
     worked (Bring k) d = record d { registers = slice_set d.registers k joined }
 
     -- after the actions of an arm, in order

@@ -21,7 +21,7 @@ reckon_links-loop-link-preserved t c =
     let value = rw (to_z-of_z w64 c.in_ok-value.value fits) at c.operated-so_far.ensures.value in
     let flag = rw (to_z-of_z w64 c.in_ok-value.value fits) at c.operated-so_far.ensures.flag in
     let links = c.args.links.now in
-    let env = c.args.env.now in
+    let env = record c.args.env.now { regs = c.args.regs.now } in
     let i = c.loop-link.link-index in
     let m = c.link-item.result in
     let a = to_z w64 c.loop-link.so_far-bits in

@@ -2,7 +2,7 @@ use Rattle.std.proofs.Common.{◌+◌, ◌∙◌, drop, ap, sym, subst, rules, L
 use Rattle.std.proofs.Math.ListN.{drop_of_length-le}
 use Rattle.task_ast.specs.declared.tree.Stmt.{Stmt}
 use Rattle.task_ast.specs.meaning.Tree as plain
-use Rattle.task_ast.specs.meaning.Action.{term}
+use Rattle.task_ast.specs.meaning.Action.{of_registers}
 use Rattle.task_ast.specs.meaning.Footprint.{naming, arm_naming}
 use Rattle.task_ast.specs.meaning.Control.{action, arm}
 use Rattle.task_ast.specs.View.{plain_expr, plain_what, plain_block}
@@ -24,7 +24,7 @@ note-returns-in_ok-note_all-in-When-2 t c = λ registers a is.
     let first : ArmNotes one before between = search (rules, c.in_ok-note_all-in-When.ensures registers) in
     let second : ArmNotes other between after = search (rules, c.in_ok-note_all-in-When-2.ensures registers) in
     let what = ap plain_what c.in-When.is ∙ what_When c.in-When.field-0 c.in-When.first c.in-When.second in
-    notes-choice (term registers (plain_expr c.in-When.field-0) env) one other before between after first second a
+    notes-choice (of_registers registers (plain_expr c.in-When.field-0) env) one other before between after first second a
     (sym (ap (λ w. action s registers w env) what) ∙ is)
 
 pub note_all-loop-stmt-init : goal.note_all-loop-stmt-init

@@ -3,7 +3,7 @@ use Rattle.std.proofs.lemmas.Int.{to_z-of_z}
 use Rattle.std.proofs.Math.ListN.{drop_of_length-le}
 use Rattle.task_ast.specs.declared.tree.Stmt.{Stmt}
 use Rattle.task_ast.specs.meaning.Tree as plain
-use Rattle.task_ast.specs.meaning.Action.{term}
+use Rattle.task_ast.specs.meaning.Action.{of_registers}
 use Rattle.task_ast.specs.meaning.Control.{action, arm, all_of}
 use Rattle.task_ast.specs.View.{plain_expr, plain_exprs, plain_what, plain_block}
 use Rattle.task_ast.proofs.Views.{stmt_At, what_Print, what_When}
@@ -44,7 +44,7 @@ perform-returns-in_ok-push-in-Print g t c = λ joined a is.
     let s = setting_in c.args.program.now c.args.env.now in
     let line = rw (c.in-Some-2.is, c.as_slice-in-Print.ensures, c.as_slice-in-Print-2.ensures) at c.in_ok-line-in-Print.ensures in
     ap (λ l. record c.args.data.now { lines = l }) c.in_ok-push-in-Print.ensures.ok
-    ∙ said (all_of (map (λ e. term c.args.names.now e c.args.env.now) (plain_exprs c.in-Print.es))) c.args.data.now
+    ∙ said (all_of (map (λ e. of_registers c.args.names.now e c.args.env.now) (plain_exprs c.in-Print.es))) c.args.data.now
     c.in-Some-2.line line joined a
     (sym (ap (λ w. action s c.args.names.now w c.args.env.now) (ap plain_what c.in-Print.is ∙ what_Print c.in-Print.es)) ∙ is)
 
@@ -52,7 +52,7 @@ pub perform-returns-in_default-2 : goal.perform-returns-in_default-2
 perform-returns-in_default-2 g t c = λ joined a is.
     let s = setting_in c.args.program.now c.args.env.now in
     let line = rw (c.in_default-2.is, c.as_slice-in-Print.ensures, c.as_slice-in-Print-2.ensures) at c.in_ok-line-in-Print.ensures in
-    unsaid (all_of (map (λ e. term c.args.names.now e c.args.env.now) (plain_exprs c.in-Print.es))) c.args.data.now
+    unsaid (all_of (map (λ e. of_registers c.args.names.now e c.args.env.now) (plain_exprs c.in-Print.es))) c.args.data.now
     c.args.data.now line joined a
     (sym (ap (λ w. action s c.args.names.now w c.args.env.now) (ap plain_what c.in-Print.is ∙ what_Print c.in-Print.es)) ∙ is)
 
@@ -66,7 +66,7 @@ perform-returns-in_ok-perform_all-in-Some-of_data-2 g t c = λ joined act is.
     let test = rw (to_z-of_z w64 v fits) at c.if-is_zero.ensures in
     let value = rw c.as_slice-in-When.ensures at c.in-Some-of_data-2.ensures in
     let does = rw c.as_slice-then-is_zero.ensures at c.in_ok-perform_all-in-Some-of_data-2.ensures in
-    second_works (term names (plain_expr c.in-When.e) env) (arm s names (plain_block c.in-When.first) env)
+    second_works (of_registers names (plain_expr c.in-When.e) env) (arm s names (plain_block c.in-When.first) env)
     (arm s names (plain_block c.in-When.second) env) c.args.data.now c.perform_all.new.data v (sym test) (sym value) does joined act
     (sym (ap (λ w. action s names w env) (ap plain_what c.in-When.is ∙ what_When c.in-When.e c.in-When.first c.in-When.second)) ∙ is)
 
@@ -80,7 +80,7 @@ perform-returns-in_ok-perform_all-in-Some-of_data-2-2 g t c = λ joined act is.
     let test = rw (to_z-of_z w64 v fits) at c.if-is_zero.ensures in
     let value = rw c.as_slice-in-When.ensures at c.in-Some-of_data-2.ensures in
     let does = rw c.as_slice-else-is_zero.ensures at c.in_ok-perform_all-in-Some-of_data-2-2.ensures in
-    first_works (term names (plain_expr c.in-When.e) env) (arm s names (plain_block c.in-When.first) env)
+    first_works (of_registers names (plain_expr c.in-When.e) env) (arm s names (plain_block c.in-When.first) env)
     (arm s names (plain_block c.in-When.second) env) c.args.data.now c.perform_all-else-is_zero.new.data v (sym test)
     (sym value) does joined act
     (sym (ap (λ w. action s names w env) (ap plain_what c.in-When.is ∙ what_When c.in-When.e c.in-When.first c.in-When.second)) ∙ is)

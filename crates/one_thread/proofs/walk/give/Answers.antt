@@ -3,7 +3,7 @@ use Rattle.std.proofs.lemmas.Int.{to_z-of_z}
 use Rattle.std.specs.Prelude.{slice_set}
 use Rattle.task_ast.specs.meaning.Names.{slot}
 use Rattle.task_ast.specs.meaning.Control.{data_arguments}
-use Rattle.task_ast.specs.meaning.Action.{term}
+use Rattle.task_ast.specs.meaning.Action.{of_registers}
 use Rattle.task_ast.specs.View.{plain_expr, plain_exprs}
 use Rattle.one_thread.proofs.Forks.{AheadOf, rest_from, ahead-done, rest-end, rest-over, give-one, give-past, given-value, no-value}
 use Rattle.one_thread.proofs.walk.give.Goals as goal
@@ -39,7 +39,7 @@ loop-k-preserved g c =
           c.loop-k.k c.index-params-k.result c.in-Some.e.now w.in-Reg.x c.loop-k.data c.match-param.data
           c.loop-k-test.true c.index-params-k.is c.in-Some.ensures.lookup.0 c.in-Some.ensures.lookup.1 w.in-Reg.is
           (given-value joined (slot c.args.given.now w.in-Reg.x)
-          (term c.args.names.now (plain_expr c.in-Some.e.now) c.args.env.now) v c.loop-k.data c.match-param.data is changed)
+          (of_registers c.args.names.now (plain_expr c.in-Some.e.now) c.args.env.now) v c.loop-k.data c.match-param.data is changed)
           (c.loop-k.invariant joined s)
       | in-Reg+in_default-of_data w ↦ λ joined s.
           let whole = data_arguments s c.args.given.now c.args.names.now c.args.params.now (plain_exprs c.args.es.now) c.args.env.now in
@@ -50,7 +50,7 @@ loop-k-preserved g c =
           c.loop-k.k c.index-params-k.result c.in-Some.e.now w.in-Reg.x c.loop-k.data c.loop-k.data
           c.loop-k-test.true c.index-params-k.is c.in-Some.ensures.lookup.0 c.in-Some.ensures.lookup.1 w.in-Reg.is
           (no-value joined (slot c.args.given.now w.in-Reg.x)
-          (term c.args.names.now (plain_expr c.in-Some.e.now) c.args.env.now) c.loop-k.data is) (c.loop-k.invariant joined s))
+          (of_registers c.args.names.now (plain_expr c.in-Some.e.now) c.args.env.now) c.loop-k.data is) (c.loop-k.invariant joined s))
       | in-Ctl w ↦ λ joined s.
           let whole = data_arguments s c.args.given.now c.args.names.now c.args.params.now (plain_exprs c.args.es.now) c.args.env.now in
           subst (λ d. AheadOf joined whole (rest_from joined s c.args.given.now c.args.names.now c.args.env.now whole c.args.data.now

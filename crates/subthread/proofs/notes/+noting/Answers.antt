@@ -1,5 +1,5 @@
 use Rattle.std.proofs.Common.{sym, ap, ◌∙◌}
-use Rattle.task_code.specs.Reading.{calc_term, deed_action, deeds_arm}
+use Rattle.task_code.specs.Reading.{calc_of_registers, deed_action, deeds_arm}
 use Rattle.task_code.specs.View.{plain_arm, plain_calc, plain_deed}
 use Rattle.task_code.proofs.Views.{deed_When}
 use Rattle.subthread.specs.inner.Running.{env_in}
@@ -15,7 +15,7 @@ note-returns-in_ok-note_all-in-When t c =
     let second = rw c.as_slice-in-When.ensures at c.note_all-in-When.ensures in
     on_ok c.note_all-in-When.result
     (λ notes a is.
-    both_noted (calc_term (plain_calc deed.field-0) env) (deeds_arm (plain_arm deed.first) env) (deeds_arm (plain_arm deed.second) env)
+    both_noted (calc_of_registers (plain_calc deed.field-0) env) (deeds_arm (plain_arm deed.first) env) (deeds_arm (plain_arm deed.second) env)
     c.args.names.now c.note_all.new.names c.note_all-in-When.new.names first notes a
     (sym (ap (λ d. deed_action d env) (ap plain_deed deed.is ∙ deed_When deed.field-0 deed.first deed.second)) ∙ is))
     second
