@@ -1,11 +1,12 @@
-// Runs of which walks are disturbed, or the sums of what they leave at rest. What they write was reckoned by hand: the first
-// walk of a run is that of position 0, and where two threads add to one total, the first that has a cell is that of
-// position 4.
-ghost use Rattle.std.specs.Prelude.{◌≡◌, ◌++◌, ◌∷◌, [], IfOk, OnOk};
+// Runs of which walks are disturbed, or the sums of what they leave at rest, or that of the feeds. What they write was
+// reckoned by hand: the first walk of a run is that of position 0, and where two threads add to one total, the first that
+// has a cell is that of position 4.
+ghost use Rattle.std.specs.Prelude.{◌≡◌, ◌<◌, ◌≤◌, ◌%◌, ◌++◌, ◌∷◌, [], length, IfOk, OnOk};
+ghost use Rattle.gp_base.specs.declared.limits.TheConstants.{MOST_FEED_CELLS};
 ghost use Rattle.gp_base.specs.Files.{HasDistinctNames};
 
 use batch_calls::log_rechecked;
-use gp_base::{FreeGate, MemShelf, MemSink, Name, Seq, Text};
+use gp_base::{Feed, FreeGate, MemShelf, MemSink, Name, Nums, Seq, Text};
 use std::alloc::{AllocError, Global};
 use std::test::Fail;
 use std::thread::Threads;
@@ -59,6 +60,34 @@ task main() {
 }
 ";
 
+// A feed of 32 cells is asked at each fifth position, 4, 9 and so on; position 2 is the last.
+const FED: &str = "lock gate[1];
+feed rate[2] from \"r.csv\";
+task main() {
+  print rate[0, 0] + rate[15, 1];
+  lock gate[0];
+  unlock gate[0];
+  print rate[1, 0];
+}
+";
+
+// The same feed, and position 6 is the last.
+const FED_LONGER: &str = "lock gate[1];
+feed rate[2] from \"r.csv\";
+task main() {
+  var i;
+  while i < 3 {
+    print rate[i, 0];
+    lock gate[0];
+    unlock gate[0];
+    i = i + 1;
+  }
+}
+";
+
+const RATES: &str =
+    "1,2\n3,4\n5,6\n7,8\n1,2\n3,4\n5,6\n7,8\n1,2\n3,4\n5,6\n7,8\n1,2\n3,4\n5,6\n7,8\n";
+
 // A fault strikes position 4, and is reported three issues later.
 const FAULT: &str = "4,0,3,5\n";
 
@@ -111,13 +140,14 @@ fn put(
     files.push((name, text))
 }
 
-/// A program, and its faults.
+/// A program, its faults, and the rows of its feed.
 pub fn files_of(alloc: Global, program: &str) -> Result<Seq<(Name, Text)>, AllocError>
     ensures { IfOk result HasDistinctNames }
 {
     let mut files = Seq::new(alloc);
     put(alloc, &mut files, b"p.gp", program.as_bytes())?;
     put(alloc, &mut files, b"f.csv", FAULT.as_bytes())?;
+    put(alloc, &mut files, b"r.csv", RATES.as_bytes())?;
     Ok(files)
 }
 
@@ -275,6 +305,56 @@ fn a_changed_sum_of_cells_is_told_at_the_end(rt: HostRuntime) -> Result<(), Fail
     answers(&rt, WRITTEN, "run p.gp", disturbed, 1, output, line)
 }
 
+// Where the last position retires before the feeds are to be asked, its lines are published, and the tail is not.
+#[test]
+fn a_changed_sum_of_feeds_is_told_before_the_tail(rt: HostRuntime) -> Result<(), Fail> {
+    let disturbed = (Disturbance::FeedSum, 1);
+    let output = "output\n9\n3\n";
+    let line = "gprs_twice: data damaged at position 2\n";
+    answers(&rt, FED, "run p.gp", disturbed, 1, output, line)?;
+    answers(&rt, FED, "one p.gp", disturbed, 1, output, line)
+}
+
+#[test]
+fn a_changed_sum_of_feeds_is_told_while_the_run_goes_on(rt: HostRuntime) -> Result<(), Fail> {
+    let disturbed = (Disturbance::FeedSum, 1);
+    let output = "output\n1\n3\n";
+    let line = "gprs_twice: data damaged at position 4\n";
+    answers(&rt, FED_LONGER, "run p.gp", disturbed, 1, output, line)?;
+    answers(&rt, FED_LONGER, "one p.gp", disturbed, 1, output, line)?;
+    let line = "gprs_twice: data damaged at position 1\n";
+    answers(&rt, "", "soak 4 1", disturbed, 1, "", line)
+}
+
+// A feed of these cells.
+fn feeds_of(alloc: Global, fields: u32, cells: &[i64]) -> Result<Vec<Feed>, AllocError>
+    requires some_field { 0 < fields }
+    requires whole_rows { length cells.now % fields ≡ 0 }
+    requires few_cells { length cells.now ≤ MOST_FEED_CELLS }
+{
+    let cells = Nums::from_slice(alloc, cells)?;
+    let mut feeds = Vec::new(alloc);
+    feeds.push(Feed::new(fields, cells))?;
+    Ok(feeds)
+}
+
+// A cell that changed, two that changed places, and a row that became two are no longer the feed of which a sum was kept.
+#[test]
+fn a_feed_that_changed_is_not_expected(rt: HostRuntime) -> Result<(), Fail> {
+    let alloc = rt.alloc();
+    let mut recheck = Recheck::twice();
+    recheck.keep_feeds(&feeds_of(alloc, 2, &[5, 6, 7, 8])?);
+    let is_expected = recheck.expects_feeds(&feeds_of(alloc, 2, &[5, 6, 7, 8])?);
+    let is_changed = recheck.expects_feeds(&feeds_of(alloc, 2, &[5, 6, 7, 12])?)
+        || recheck.expects_feeds(&feeds_of(alloc, 2, &[6, 5, 7, 8])?)
+        || recheck.expects_feeds(&feeds_of(alloc, 1, &[5, 6, 7, 8])?);
+    if is_expected && !is_changed {
+        Ok(())
+    } else {
+        Err(Fail::from("another feed is expected"))
+    }
+}
+
 #[test]
 fn memory_that_is_refused_is_no_difference(rt: HostRuntime) -> Result<(), Fail> {
     let line = "gprs: out of memory\n";
@@ -312,10 +392,12 @@ fn nothing_stands_behind_a_trace_or_a_log(rt: HostRuntime) -> Result<(), Fail> {
 fn no_difference_is_told_where_nothing_is_disturbed(rt: HostRuntime) -> Result<(), Fail> {
     for crew in &CREWS {
         let words = format!(in rt.alloc(); "run p.gp --faults f.csv --workers 2 --crew {crew}")?;
-        let answer = answer_under(&rt, ADD, &words, Recheck::twice())?;
-        let is_told = answer.recheck.differed() > 0 || answer.recheck.has_stopped();
-        if is_told || !(answer.status == 0 || answer.status == 1) {
-            return Err(Fail::from("a difference is told, or another status"));
+        for program in [ADD, FED_LONGER] {
+            let answer = answer_under(&rt, program, &words, Recheck::twice())?;
+            let is_told = answer.recheck.differed() > 0 || answer.recheck.has_stopped();
+            if is_told || !(answer.status == 0 || answer.status == 1) {
+                return Err(Fail::from("a difference is told, or another status"));
+            }
         }
     }
     Ok(())
