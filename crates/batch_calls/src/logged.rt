@@ -95,7 +95,7 @@ pub fn put_logged<R: Threads + Sync, C: Crew, O: Sink, L: Sink>(
         Ok(report) => report,
         Err(stop) => return Err(stop),
     };
-    match put_tail(alloc, code, checked, &report, out) {
+    match put_tail(alloc, &code.recheck, checked, &report, out) {
         Ok(()) => Ok(report),
         Err(fault) => Err(stopped(fault, report.journal)),
     }

@@ -58,7 +58,7 @@ fn recovery_of(command: Command) -> Recovery
 }
 
 // What runs a program: its code, with copies of the feeds, the turns that a subthread may take, and the recheck that its
-// subthreads are walked under, which keeps the sum over the feeds as they came; and the layout of its cells. The error is
+// subthreads are walked under, which keeps sums over the feeds as they came; and the layout of its cells. The error is
 // that memory is out.
 fn work_and_layout(
     alloc: Global,
@@ -74,7 +74,7 @@ fn work_and_layout(
     ensures layout { IfOk result (λ made. made.1 ≡ layout (program_of checked.now).heads) }
 {
     let mut recheck = recheck;
-    recheck.keep_feeds(feeds);
+    recheck.keep_feeds(alloc, feeds)?;
     let layout = checked.layout(alloc)?;
     let feeds = copied_feeds(alloc, feeds)?;
     let code = lower(alloc, checked)?;

@@ -70,42 +70,37 @@ fn last_of(report: &Report) -> Pos {
     Pos(report.subthreads.saturating_sub(1))
 }
 
-// Whether the feeds are as they were read, so far as a sum of them is kept.
-fn are_feeds_whole(code: &Work) -> bool {
-    code.recheck.expects_feeds(code.feeds.as_slice())
-}
-
 // What follows the printed lines; where walks are compared, it is made twice. The error is that memory is out, or that the
-// two texts differ, or the feeds are not as they were read, which is noted.
+// two texts differ, which is noted.
 fn tail_of(
     alloc: Global,
-    code: &Work,
+    recheck: &Recheck,
     checked: &Checked,
     report: &Report,
 ) -> Result<Text, AllocError>
     ensures { IfOk result (λ text. text ≡ told_tail (plain_program (program_of checked.now)) report.now) }
 {
     let tail = tail_text(alloc, checked, report)?;
-    if code.recheck.is_on()
-        && !(are_feeds_whole(code) && is_tail_text(alloc, tail.as_slice(), checked, report)?)
-    {
-        code.recheck.note_damaged(last_of(report));
+    if recheck.is_on() && !is_tail_text(alloc, tail.as_slice(), checked, report)? {
+        recheck.note_damaged(last_of(report));
         return Err(AllocError);
     }
     Ok(tail)
 }
 
 // The summary of a batch that the program made; where walks are compared, it is made twice, as `tail_of` does.
-fn summary_of(alloc: Global, code: &Work, soak: Soak, report: &Report) -> Result<Text, AllocError>
+fn summary_of(
+    alloc: Global,
+    recheck: &Recheck,
+    soak: Soak,
+    report: &Report,
+) -> Result<Text, AllocError>
     ensures { IfOk result (λ text. text ≡ told_soak soak report.now) }
 {
     let (moves, start) = (soak.moves, soak.start);
     let summary = soak_text(alloc, moves, start, report)?;
-    if code.recheck.is_on()
-        && !(are_feeds_whole(code)
-            && is_soak_text(alloc, summary.as_slice(), moves, start, report)?)
-    {
-        code.recheck.note_damaged(last_of(report));
+    if recheck.is_on() && !is_soak_text(alloc, summary.as_slice(), moves, start, report)? {
+        recheck.note_damaged(last_of(report));
         return Err(AllocError);
     }
     Ok(summary)
@@ -114,7 +109,7 @@ fn summary_of(alloc: Global, code: &Work, soak: Soak, report: &Report) -> Result
 /// Writes what follows the printed lines.
 pub fn put_tail<O: Sink>(
     alloc: Global,
-    code: &Work,
+    recheck: &Recheck,
     checked: &Checked,
     report: &Report,
     out: &mut O,
@@ -123,14 +118,14 @@ pub fn put_tail<O: Sink>(
     ensures prefix { OnErr result (AppendsPrefix (O.written out.old) (O.written out.new) (told_tail (plain_program (program_of checked.now)) report.now)) }
     ensures cause { HasCause (O.faults out.old) (O.faults out.new) result }
 {
-    let tail = tail_of(alloc, code, checked, report)?;
+    let tail = tail_of(alloc, recheck, checked, report)?;
     put_all(out, tail.as_slice())
 }
 
 // Writes the summary of a batch that the program made.
 fn put_summary<O: Sink>(
     alloc: Global,
-    code: &Work,
+    recheck: &Recheck,
     soak: Soak,
     report: &Report,
     out: &mut O,
@@ -139,7 +134,7 @@ fn put_summary<O: Sink>(
     ensures prefix { OnErr result (AppendsPrefix (O.written out.old) (O.written out.new) (told_soak soak report.now)) }
     ensures cause { HasCause (O.faults out.old) (O.faults out.new) result }
 {
-    let summary = summary_of(alloc, code, soak, report)?;
+    let summary = summary_of(alloc, recheck, soak, report)?;
     put_all(out, summary.as_slice())
 }
 
@@ -174,7 +169,7 @@ fn put_run<R: Threads + Sync, C: Crew, O: Sink>(
         Ok(report) => report,
         Err(stop) => return Err(stop),
     };
-    match put_tail(alloc, code, checked, &report, out) {
+    match put_tail(alloc, &code.recheck, checked, &report, out) {
         Ok(()) => Ok(report),
         Err(fault) => Err(stopped(fault, report.journal)),
     }
@@ -206,7 +201,7 @@ fn put_soak<R: Threads + Sync, C: Crew, O: Sink>(
         Ok(report) => report,
         Err(stop) => return Err(stop),
     };
-    match put_summary(alloc, code, soak, &report, out) {
+    match put_summary(alloc, &code.recheck, soak, &report, out) {
         Ok(()) => Ok(report),
         Err(fault) => Err(stopped(fault, report.journal)),
     }

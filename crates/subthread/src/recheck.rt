@@ -1,12 +1,13 @@
 // Whether the walks of a batch are made twice and compared, and what was seen of it.
 
-use gp_base::{Feed, Pos};
+use gp_base::{Feed, Lines, Nums, Pos, Seq};
 use record_store::mixed;
+use std::alloc::{AllocError, Global};
 use std::sync::atomic::{AtomicU64, Ordering};
 
 /// What is turned: of the summary of a walk, so that it differs from the walk, a bit of its count of steps, or a bit of the
 /// old value of a cell that it wrote; or of what it leaves at rest, a bit of the sum of a bundle, or of that of registers;
-/// or a bit of the sum of the feeds. By a refusal nothing is turned, but memory is out when two walks are compared.
+/// or a bit of each sum of the feeds. By a refusal nothing is turned, but memory is out when two walks are compared.
 #[derive(Clone, Copy, PartialEq, Eq)]
 pub enum Disturbance {
     Steps,
@@ -17,42 +18,31 @@ pub enum Disturbance {
     Refusal,
 }
 
-// How many cells of feeds are gone over for each position, in the mean, at most: few beside what a position takes.
-const CELLS_A_POSITION: u32 = 8;
+// How many cells of a feed stand under one sum: a read of one goes over all of them, and the sums take an eighth of the
+// memory of the feeds.
+const CELLS_A_SUM: usize = 8;
 
-// What is kept of the feeds of a batch: the sum over them, and after how many positions they are asked each time.
-#[derive(Clone, Copy)]
-struct FeedSum {
-    sum: i64,
-    every: u32,
-}
-
-// The sum over the fields and the cells of a feed.
-fn sum_of(feed: &Feed) -> i64 {
-    let mut sum = i64::from(feed.fields);
-    for (place, cell) in feed.cells.as_slice().iter().enumerate() {
-        sum = sum.wrapping_add(mixed(place, *cell));
+// The sum over a piece of a feed: its form, and the cells of the piece.
+fn sum_of(feed: &Feed, piece: usize) -> i64 {
+    let cells = feed.cells.as_slice();
+    let mut sum = mixed(cells.len(), i64::from(feed.fields));
+    let first = piece.saturating_mul(CELLS_A_SUM);
+    for place in first..first.saturating_add(CELLS_A_SUM) {
+        if let Some(cell) = cells.get(place) {
+            sum = sum.wrapping_add(mixed(place, *cell));
+        }
     }
     sum
 }
 
-// The sum over all feeds, each in its place.
-fn sum_over(feeds: &[Feed]) -> i64 {
-    let mut sum = 0i64;
-    for (place, feed) in feeds.iter().enumerate() {
-        sum = sum.wrapping_add(mixed(place, sum_of(feed)));
+// The sums over all pieces of a feed, with these bits turned; the last piece may have no cell. The error is that memory is
+// out.
+fn sums_over(alloc: Global, feed: &Feed, turned: i64) -> Result<Nums, AllocError> {
+    let mut sums = Seq::new(alloc);
+    for piece in 0..=feed.cells.len() / CELLS_A_SUM {
+        sums.push(sum_of(feed, piece) ^ turned)?;
     }
-    sum
-}
-
-// How many feeds and cells there are together.
-fn size_of(feeds: &[Feed]) -> u32 {
-    let mut size = 0u32;
-    for feed in feeds {
-        let cells = u32::try_from(feed.cells.len()).unwrap_or(u32::MAX);
-        size = size.saturating_add(cells).saturating_add(1);
-    }
-    size
+    Ok(sums)
 }
 
 /// Whether each walk of a batch is made twice and compared, and a sum is kept of what it leaves at rest and of the feeds;
@@ -62,7 +52,7 @@ fn size_of(feeds: &[Feed]) -> u32 {
 pub struct Recheck {
     twice: bool,
     disturbance: Option<Disturbance>,
-    feeds: Option<FeedSum>,
+    feeds: Option<Lines>,
     to_disturb: AtomicU64,
     differed: AtomicU64,
     last: AtomicU64,
@@ -105,35 +95,32 @@ impl Recheck {
         self.twice
     }
 
-    /// Keeps the sum over the feeds of the batch as they now are, where sums are kept. Takes no memory.
-    pub fn keep_feeds(&mut self, feeds: &[Feed]) {
+    /// Keeps sums over the feeds of the batch as they now are, where sums are kept. The error is that memory is out.
+    pub fn keep_feeds(&mut self, alloc: Global, feeds: &[Feed]) -> Result<(), AllocError> {
         if !self.twice {
-            return;
+            return Ok(());
         }
-        let sum = sum_over(feeds);
-        let sum = if self.disturbs(Disturbance::FeedSum) {
-            sum ^ 1
-        } else {
-            sum
+        let turned = i64::from(self.disturbs(Disturbance::FeedSum));
+        let mut all = Seq::new(alloc);
+        for feed in feeds {
+            all.push(sums_over(alloc, feed, turned)?)?;
+        }
+        self.feeds = Some(all);
+        Ok(())
+    }
+
+    /// Whether the feed of this number is as it was when the sums were made, as far as they tell: its form, and the cells
+    /// that stand beside the one in a row and a field, with that one. True where none were made.
+    pub fn is_as_read(&self, number: usize, feed: &Feed, row: i64, field: i64) -> bool {
+        let Some(feeds) = &self.feeds else {
+            return true;
         };
-        let every = (size_of(feeds) / CELLS_A_POSITION).saturating_add(1);
-        self.feeds = Some(FeedSum { sum, every });
-    }
-
-    /// Whether the feeds are to be asked when the task at this position retires: so seldom that asking takes no longer, up
-    /// to a factor, than the run.
-    pub fn asks_feeds(&self, pos: Pos) -> bool {
-        match self.feeds {
-            Some(kept) => pos.0.checked_rem(kept.every) == kept.every.checked_sub(1),
+        let place = row.wrapping_mul(i64::from(feed.fields)).wrapping_add(field);
+        let place = usize::try_from(place).unwrap_or(0).min(feed.cells.len());
+        let piece = place / CELLS_A_SUM;
+        match feeds.get(number).and_then(|sums| sums.get(piece)) {
+            Some(sum) => *sum == sum_of(feed, piece),
             None => false,
-        }
-    }
-
-    /// Whether the feeds are those of which a sum was kept, as far as it tells; true where none was.
-    pub fn expects_feeds(&self, feeds: &[Feed]) -> bool {
-        match self.feeds {
-            Some(kept) => kept.sum == sum_over(feeds),
-            None => true,
         }
     }
 
@@ -165,7 +152,7 @@ impl Recheck {
     }
 
     /// Notes that data at rest are not as they were left: the registers or record cells that the task at a position is
-    /// lent, or the record cells, the feeds or the text that are there when it retires.
+    /// lent, what it reads of a feed, or the record cells or the text that are there when it retires.
     pub fn note_damaged(&self, pos: Pos) {
         self.damaged
             .store(u64::from(pos.0).saturating_add(1), Ordering::SeqCst);

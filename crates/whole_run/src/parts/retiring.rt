@@ -94,23 +94,11 @@ fn put<O: Sink>(out: &mut O, bytes: &[u8]) -> Result<(), StopWhy>
     }
 }
 
-// Whether the feeds are as they were read, where they are to be asked when this position retires.
-fn are_feeds_whole(plan: &Plan, pos: Pos) -> bool {
-    let recheck = &plan.work.recheck;
-    !recheck.asks_feeds(pos) || recheck.expects_feeds(plan.work.feeds.as_slice())
-}
-
-// Whether this is the text of the lines of an entry, and the feeds, where they are to be asked, and the record cells, where
-// it is the last one, are as they were left. The error is that memory is out.
-fn is_whole(
-    alloc: Global,
-    plan: &Plan,
-    parts: &Parts,
-    entry: &Entry,
-    text: &[u8],
-) -> Result<bool, AllocError> {
+// Whether this is the text of the lines of an entry, and the record cells, where it is the last one, are as they were
+// left. The error is that memory is out.
+fn is_whole(alloc: Global, parts: &Parts, entry: &Entry, text: &[u8]) -> Result<bool, AllocError> {
     let is_last = parts.rol.len() == 1 && matches!(parts.ended, Some(Halt::Ended(_)));
-    if is_last && !parts.store.is_whole() || !are_feeds_whole(plan, entry.pos) {
+    if is_last && !parts.store.is_whole() {
         return Ok(false);
     }
     is_printed(alloc, text, &entry.prints)
@@ -122,7 +110,7 @@ fn text_of(alloc: Global, plan: &Plan, parts: &Parts, entry: &Entry) -> Result<V
     ensures { IfOk result (λ text. text.items ≡ printed entry.now.prints) }
 {
     let text = printed(alloc, &entry.prints)?;
-    if plan.work.recheck.is_on() && !is_whole(alloc, plan, parts, entry, &text)? {
+    if plan.work.recheck.is_on() && !is_whole(alloc, parts, entry, &text)? {
         plan.work.recheck.note_damaged(entry.pos);
         return Err(AllocError);
     }
