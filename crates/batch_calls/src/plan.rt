@@ -58,7 +58,8 @@ fn recovery_of(command: Command) -> Recovery
 }
 
 // What runs a program: its code, with copies of the feeds, the turns that a subthread may take, and the recheck that its
-// subthreads are walked under; and the layout of its cells. The error is that memory is out.
+// subthreads are walked under, which keeps sums over the feeds as they came; and the layout of its cells. The error is
+// that memory is out.
 fn work_and_layout(
     alloc: Global,
     checked: &Checked,
@@ -72,6 +73,8 @@ fn work_and_layout(
     ensures turns { IfOk result (λ made. made.0.turns ≡ turns) }
     ensures layout { IfOk result (λ made. made.1 ≡ layout (program_of checked.now).heads) }
 {
+    let mut recheck = recheck;
+    recheck.keep_feeds(alloc, feeds)?;
     let layout = checked.layout(alloc)?;
     let feeds = copied_feeds(alloc, feeds)?;
     let code = lower(alloc, checked)?;

@@ -17,6 +17,7 @@ use crate::{Disturbance, Recheck, Task, Work};
 use gp_base::{Footprint, Lines, Loc, Nums, Seq};
 use record_store::Bundle;
 use std::alloc::{AllocError, Global};
+use std::sync::atomic::Ordering;
 use task_ast::{Next, SyncOp};
 
 /// A walk that came to its next synchronisation: where it then stands, what it did, what comes next, and what it reads
@@ -367,9 +368,28 @@ fn compared<'a>(
     agreed(alloc, work, task, sum, third, &one, &two)
 }
 
+// A walk of a task, where all that its walks read of feeds was as it came; where it was not, that is noted. The error has
+// the bundles as they came.
+fn fed<'a>(
+    recheck: &Recheck,
+    task: &Task,
+    ground: &Ground,
+    walk: Walk<'a>,
+) -> Result<Walk<'a>, Seq<Bundle>>
+    ensures walk { IfOk result (λ fed. fed ≡ walk.entry) }
+    ensures back { IfErr result (λ bundles. bundles ≡ walk.entry.doing.cells.came) }
+{
+    if ground.is_misfed.load(Ordering::SeqCst) {
+        recheck.note_damaged(task.pos);
+        return Err(given_back(walk));
+    }
+    Ok(walk)
+}
+
 /// A walk of a task from its beginning, made once, or twice and compared, as the work's recheck says; its bundles are
 /// handed over, and the steps of all walks are added. The error is that memory is out, or that walks could not be agreed
-/// on, or that what came is not as it was left, which the recheck keeps; it has the bundles as they came.
+/// on, or that what came, or what they read of feeds, is not as it was left, which the recheck keeps; it has the bundles as
+/// they came.
 pub fn attempts<'a>(
     alloc: Global,
     work: &'a Work,
@@ -389,7 +409,10 @@ pub fn attempts<'a>(
     ensures back { IfErr result (λ back. back ≡ ground.now.bundles.value) }
 {
     if work.recheck.is_on() {
-        compared(alloc, work, task, ground, bundles, steps)
+        match compared(alloc, work, task, ground, bundles, steps) {
+            Ok(walk) => fed(&work.recheck, task, ground, walk),
+            Err(bundles) => Err(bundles),
+        }
     } else {
         attempt(alloc, work, task, ground, bundles, steps)
     }

@@ -14,6 +14,7 @@ use crate::walk::{control_at, stop};
 use gp_base::{At, Nums, Seq, ThreadNo};
 use std::alloc::{AllocError, Global};
 use std::snapshot::Snapshot;
+use std::sync::atomic::AtomicBool;
 use task_ast::{Next, SyncOp};
 
 // What the control of a thread in a task reads. No cells are at hand.
@@ -27,10 +28,12 @@ fn control_ground<'a>(alloc: Global, work: &'a Work, task: u32, thread: ThreadNo
         task,
         instrs: work.code.instrs(task),
         feeds: work.feeds.as_slice(),
+        recheck: &work.recheck,
         under: &[],
         bundles: Snapshot::of(&Seq::new(alloc)),
         joined: 0,
         me: thread,
+        is_misfed: AtomicBool::new(false),
     }
 }
 

@@ -1,27 +1,58 @@
 // Whether the walks of a batch are made twice and compared, and what was seen of it.
 
-use gp_base::Pos;
+use gp_base::{Feed, Lines, Nums, Pos, Seq};
+use record_store::mixed;
+use std::alloc::{AllocError, Global};
 use std::sync::atomic::{AtomicU64, Ordering};
 
 /// What is turned: of the summary of a walk, so that it differs from the walk, a bit of its count of steps, or a bit of the
-/// old value of a cell that it wrote; or of what it leaves at rest, a bit of the sum of a bundle, or of that of registers.
-/// By a refusal nothing is turned, but memory is out when two walks are compared.
+/// old value of a cell that it wrote; or of what it leaves at rest, a bit of the sum of a bundle, or of that of registers;
+/// or a bit of each sum of the feeds. By a refusal nothing is turned, but memory is out when two walks are compared.
 #[derive(Clone, Copy, PartialEq, Eq)]
 pub enum Disturbance {
     Steps,
     OldValue,
     BundleSum,
     RegisterSum,
+    FeedSum,
     Refusal,
 }
 
-/// Whether each walk of a batch is made twice and compared, and a sum is kept of what it leaves at rest; how often walks
-/// differed; which task's could not be agreed on, and which was lent data that are not as they were left. All workers of
-/// the batch share it, and write it in no order; nothing hangs on it but what is told of it.
+// How many cells of a feed stand under one sum: a read of one goes over all of them, and the sums take an eighth of the
+// memory of the feeds.
+const CELLS_A_SUM: usize = 8;
+
+// The sum over a piece of a feed: its form, and the cells of the piece.
+fn sum_of(feed: &Feed, piece: usize) -> i64 {
+    let cells = feed.cells.as_slice();
+    let mut sum = mixed(cells.len(), i64::from(feed.fields));
+    let first = piece.saturating_mul(CELLS_A_SUM);
+    for place in first..first.saturating_add(CELLS_A_SUM) {
+        if let Some(cell) = cells.get(place) {
+            sum = sum.wrapping_add(mixed(place, *cell));
+        }
+    }
+    sum
+}
+
+// The sums over all pieces of a feed, with these bits turned; the last piece may have no cell. The error is that memory is
+// out.
+fn sums_over(alloc: Global, feed: &Feed, turned: i64) -> Result<Nums, AllocError> {
+    let mut sums = Seq::new(alloc);
+    for piece in 0..=feed.cells.len() / CELLS_A_SUM {
+        sums.push(sum_of(feed, piece) ^ turned)?;
+    }
+    Ok(sums)
+}
+
+/// Whether each walk of a batch is made twice and compared, and a sum is kept of what it leaves at rest and of the feeds;
+/// how often walks differed; which task's could not be agreed on, and at which one data were not as they were left. All
+/// workers of the batch share it, and write it in no order; nothing hangs on it but what is told of it.
 #[derive(Drop)]
 pub struct Recheck {
     twice: bool,
     disturbance: Option<Disturbance>,
+    feeds: Option<Lines>,
     to_disturb: AtomicU64,
     differed: AtomicU64,
     last: AtomicU64,
@@ -34,6 +65,7 @@ impl Recheck {
         Recheck {
             twice,
             disturbance,
+            feeds: None,
             to_disturb: AtomicU64::new(walks),
             differed: AtomicU64::new(0),
             last: AtomicU64::new(0),
@@ -61,6 +93,35 @@ impl Recheck {
     /// Whether walks are made twice, and sums of data at rest are kept and asked.
     pub fn is_on(&self) -> bool {
         self.twice
+    }
+
+    /// Keeps sums over the feeds of the batch as they now are, where sums are kept. The error is that memory is out.
+    pub fn keep_feeds(&mut self, alloc: Global, feeds: &[Feed]) -> Result<(), AllocError> {
+        if !self.twice {
+            return Ok(());
+        }
+        let turned = i64::from(self.disturbs(Disturbance::FeedSum));
+        let mut all = Seq::new(alloc);
+        for feed in feeds {
+            all.push(sums_over(alloc, feed, turned)?)?;
+        }
+        self.feeds = Some(all);
+        Ok(())
+    }
+
+    /// Whether the feed of this number is as it was when the sums were made, as far as they tell: its form, and the cells
+    /// that stand beside the one in a row and a field, with that one. True where none were made.
+    pub fn is_as_read(&self, number: usize, feed: &Feed, row: i64, field: i64) -> bool {
+        let Some(feeds) = &self.feeds else {
+            return true;
+        };
+        let place = row.wrapping_mul(i64::from(feed.fields)).wrapping_add(field);
+        let place = usize::try_from(place).unwrap_or(0).min(feed.cells.len());
+        let piece = place / CELLS_A_SUM;
+        match feeds.get(number).and_then(|sums| sums.get(piece)) {
+            Some(sum) => *sum == sum_of(feed, piece),
+            None => false,
+        }
     }
 
     /// Whether the next walk is disturbed so; it then counts as disturbed.
@@ -91,7 +152,7 @@ impl Recheck {
     }
 
     /// Notes that data at rest are not as they were left: the registers or record cells that the task at a position is
-    /// lent, or the record cells or the text that are there when it retires.
+    /// lent, what it reads of a feed, or the record cells or the text that are there when it retires.
     pub fn note_damaged(&self, pos: Pos) {
         self.damaged
             .store(u64::from(pos.0).saturating_add(1), Ordering::SeqCst);

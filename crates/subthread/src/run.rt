@@ -27,6 +27,7 @@ use record_store::{Bundle, Effect, Summed};
 use std::alloc::{AllocError, AllocFailed, Global};
 use std::mem;
 use std::snapshot::Snapshot;
+use std::sync::atomic::AtomicBool;
 use task_ast::Next;
 
 // What the run of a task reads.
@@ -40,10 +41,12 @@ fn ground_of<'a>(work: &'a Work, task: &Task) -> Ground<'a>
         task: task.at.task,
         instrs: work.code.instrs(task.at.task),
         feeds: work.feeds.as_slice(),
+        recheck: &work.recheck,
         under: work.code.layout().under.as_slice(),
         bundles: Snapshot::of(&task.given.bundles),
         joined: task.given.joined,
         me: task.thread,
+        is_misfed: AtomicBool::new(false),
     }
 }
 
@@ -250,7 +253,7 @@ pub fn run_task(alloc: Global, work: &Work, task: Task) -> Result<Done, AllocFai
 /// Rangan and August, 'SWIFT: software implemented fault tolerance' (2005) repeat each instruction; Reinhardt and
 /// Mukherjee, 'Transient fault detection via simultaneous multithreading' (RMT, 2000) compare two threads at what leaves
 /// them, as is done here at what leaves a subthread. A sum is then kept with each bundle and with the registers of each
-/// thread that it leaves, and asked when they are lent again.
+/// thread that it leaves, and asked when they are lent again; those over the feeds are asked where a walk reads them.
 pub fn run_counted(
     alloc: Global,
     work: &Work,

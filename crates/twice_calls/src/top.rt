@@ -51,8 +51,8 @@ pub fn run_told<R: Threads + Sync + AllocGlobal, H: Shelf, O: Sink, E: Sink, G: 
 ///
 /// The status, and what `out` takes, are those of `gprs_run_pipe`. After what it takes there, `err` takes a line where
 /// walks differed, unless a trace is asked for. Where the walks of a position could not be agreed on, or data that it is
-/// lent or that are told were not as they were left, the call stops with status 1, and a line of that stands in the place
-/// of that of memory that is out.
+/// lent, reads of a feed or tells were not as they were left, the call stops with status 1, and a line of that stands in
+/// the place of that of memory that is out.
 pub fn twice_run<R: Threads + Sync + AllocGlobal, H: Shelf, O: Sink, E: Sink, G: Gate>(
     rt: &R,
     words: &[String],

@@ -1,11 +1,11 @@
-// Runs of which walks are disturbed, or the sums of what they leave at rest. What they write was reckoned by hand: the first
-// walk of a run is that of position 0, and where two threads add to one total, the first that has a cell is that of
-// position 4.
-ghost use Rattle.std.specs.Prelude.{◌≡◌, ◌++◌, ◌∷◌, [], IfOk, OnOk};
+// Runs of which walks are disturbed, or the sums of what they leave at rest, or that of the feeds. What they write was
+// reckoned by hand: the first walk of a run is that of position 0, and where two threads add to one total, the first that
+// has a cell is that of position 4.
+ghost use Rattle.std.specs.Prelude.{◌≡◌, ◌<◌, ◌%◌, ◌++◌, ◌∷◌, [], IfOk, OnOk};
 ghost use Rattle.gp_base.specs.Files.{HasDistinctNames};
 
 use batch_calls::log_rechecked;
-use gp_base::{FreeGate, MemShelf, MemSink, Name, Seq, Text};
+use gp_base::{Feed, FreeGate, MemShelf, MemSink, Name, Nums, Seq, Text};
 use std::alloc::{AllocError, Global};
 use std::test::Fail;
 use std::thread::Threads;
@@ -59,6 +59,34 @@ task main() {
 }
 ";
 
+// A row is read first at position 2, and others at 4 and 6.
+const FED: &str = "lock gate[1];
+feed rate[2] from \"r.csv\";
+task main() {
+  var i;
+  print 1;
+  while i < 3 {
+    lock gate[0];
+    unlock gate[0];
+    print rate[i + 6, 1];
+    i = i + 1;
+  }
+}
+";
+
+// Of a feed it is only read how many rows it has, at position 1.
+const COUNTED: &str = "lock gate[1];
+feed rate[2] from \"r.csv\";
+task main() {
+  print 1;
+  lock gate[0];
+  print rows(rate);
+  unlock gate[0];
+}
+";
+
+const RATES: &str = "1,2\n3,4\n5,6\n7,8\n9,10\n11,12\n13,14\n15,16\n17,18\n";
+
 // A fault strikes position 4, and is reported three issues later.
 const FAULT: &str = "4,0,3,5\n";
 
@@ -111,13 +139,14 @@ fn put(
     files.push((name, text))
 }
 
-/// A program, and its faults.
+/// A program, its faults, and the rows of its feed.
 pub fn files_of(alloc: Global, program: &str) -> Result<Seq<(Name, Text)>, AllocError>
     ensures { IfOk result HasDistinctNames }
 {
     let mut files = Seq::new(alloc);
     put(alloc, &mut files, b"p.gp", program.as_bytes())?;
     put(alloc, &mut files, b"f.csv", FAULT.as_bytes())?;
+    put(alloc, &mut files, b"r.csv", RATES.as_bytes())?;
     Ok(files)
 }
 
@@ -276,6 +305,56 @@ fn a_changed_sum_of_cells_is_told_at_the_end(rt: HostRuntime) -> Result<(), Fail
 }
 
 #[test]
+fn a_changed_sum_of_feeds_is_told_where_a_row_is_read(rt: HostRuntime) -> Result<(), Fail> {
+    let disturbed = (Disturbance::FeedSum, 1);
+    let output = "output\n1\n";
+    let line = "gprs_twice: data damaged at position 2\n";
+    answers(&rt, FED, "run p.gp", disturbed, 1, output, line)?;
+    answers(&rt, FED, "one p.gp", disturbed, 1, output, line)?;
+    answers(&rt, "", "soak 4 1 --crew one", disturbed, 1, "", line)?;
+    let line = "gprs_twice: data damaged at position 1\n";
+    answers(&rt, COUNTED, "run p.gp", disturbed, 1, output, line)
+}
+
+// A recheck that has the sums over a feed of ten cells, whose rows have two: a sum stands for eight cells.
+fn kept(alloc: Global) -> Result<Recheck, AllocError> {
+    let mut recheck = Recheck::twice();
+    let cells = Nums::from_slice(alloc, &[5, 6, 7, 8, 0, 0, 0, 0, 9, 9])?;
+    let mut feeds = Vec::new(alloc);
+    feeds.push(Feed::new(2, cells))?;
+    recheck.keep_feeds(alloc, &feeds)?;
+    Ok(recheck)
+}
+
+// Whether row 1 of this feed, and its last row, are then as they were read.
+fn as_read(alloc: Global, fields: u32, cells: &[i64; 10]) -> Result<(bool, bool), AllocError>
+    requires some_field { 0 < fields }
+    requires whole_rows { 10 % fields ≡ 0 }
+{
+    let recheck = kept(alloc)?;
+    let feed = Feed::new(fields, Nums::from_slice(alloc, cells)?);
+    let is_first = recheck.is_as_read(0, &feed, 1, 0);
+    Ok((is_first, recheck.is_as_read(0, &feed, 4, 1)))
+}
+
+// A cell that changed, or two that changed places, are seen where one of the eight is read; rows that became shorter,
+// wherever one is.
+#[test]
+fn a_feed_that_changed_is_seen_where_it_is_read(rt: HostRuntime) -> Result<(), Fail> {
+    let alloc = rt.alloc();
+    let is_right = as_read(alloc, 2, &[5, 6, 7, 8, 0, 0, 0, 0, 9, 9])? == (true, true)
+        && as_read(alloc, 2, &[4, 6, 7, 8, 0, 0, 0, 0, 9, 9])? == (false, true)
+        && as_read(alloc, 2, &[6, 5, 7, 8, 0, 0, 0, 0, 9, 9])? == (false, true)
+        && as_read(alloc, 2, &[5, 6, 7, 8, 0, 0, 0, 0, 9, 13])? == (true, false)
+        && as_read(alloc, 1, &[5, 6, 7, 8, 0, 0, 0, 0, 9, 9])? == (false, false);
+    if is_right {
+        Ok(())
+    } else {
+        Err(Fail::from("another feed is taken for it, or the same for another"))
+    }
+}
+
+#[test]
 fn memory_that_is_refused_is_no_difference(rt: HostRuntime) -> Result<(), Fail> {
     let line = "gprs: out of memory\n";
     for words in ["run p.gp", "one p.gp"] {
@@ -312,10 +391,12 @@ fn nothing_stands_behind_a_trace_or_a_log(rt: HostRuntime) -> Result<(), Fail> {
 fn no_difference_is_told_where_nothing_is_disturbed(rt: HostRuntime) -> Result<(), Fail> {
     for crew in &CREWS {
         let words = format!(in rt.alloc(); "run p.gp --faults f.csv --workers 2 --crew {crew}")?;
-        let answer = answer_under(&rt, ADD, &words, Recheck::twice())?;
-        let is_told = answer.recheck.differed() > 0 || answer.recheck.has_stopped();
-        if is_told || !(answer.status == 0 || answer.status == 1) {
-            return Err(Fail::from("a difference is told, or another status"));
+        for program in [ADD, FED, COUNTED] {
+            let answer = answer_under(&rt, program, &words, Recheck::twice())?;
+            let is_told = answer.recheck.differed() > 0 || answer.recheck.has_stopped();
+            if is_told || !(answer.status == 0 || answer.status == 1) {
+                return Err(Fail::from("a difference is told, or another status"));
+            }
         }
     }
     Ok(())
