@@ -1,4 +1,4 @@
-use Rattle.std.proofs.Common.{refl, subst}
+use Rattle.std.proofs.Common.{refl}
 use Rattle.gp_resume.proofs.Fillings.{alone-taken}
 use Rattle.gp_resume.proofs.waves.run_alone.Goals as goal
 
