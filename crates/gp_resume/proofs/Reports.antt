@@ -18,7 +18,7 @@ use Rattle.task_ast.specs.meaning.Run.{Run, plain_move, plain_opening}
 use Rattle.task_ast.specs.Plain.{Plain, tree_machine, move}
 use Rattle.task_ast.specs.laws.Runs.{plain_for, IsInside}
 use Rattle.task_ast.proofs.PlainSteps.{begins_of}
-use Rattle.task_ast.proofs.Runs.{opening-inside, run-inside, steps-are, after-is, ending-is}
+use Rattle.task_ast.proofs.Runs.{opening-inside, steps-are, after-is, ending-is}
 use Rattle.dependence.specs.JournalTests.{same_attempt}
 use Rattle.dependence.proofs.Struck.{Contains-head, Contains-later}
 use Rattle.record_store.proofs.States.{records_law}

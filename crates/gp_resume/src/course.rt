@@ -3,6 +3,7 @@
 ghost use Rattle.std.specs.Prelude.{◌≡◌, ◌<◌, length, slice_set, IfOk};
 ghost use Rattle.task_ast.specs.Table.{learning};
 
+use crew::MeanSteps;
 use gp_base::{At, End, Inputs, Limits, LockNo, Nums, Pos, Seq, ThreadNo};
 use record_store::Store;
 use std::alloc::{AllocError, Global};
@@ -11,12 +12,14 @@ use subthread::Work;
 use task_ast::Next;
 use token_order::Ring;
 
-/// What is run: the work that its tasks share, the inputs as they were at its start, and its limits.
+/// What is run: the work that its tasks share, the inputs as they were at its start, and its limits. And how many steps its
+/// subthreads are reckoned to make, by which it is chosen how many go at a time.
 #[derive(Drop)]
 pub struct Plan<'a> {
     pub work: &'a Work,
     pub inputs: Snapshot<Inputs>,
     pub limits: Limits,
+    pub mean_steps: &'a MeanSteps,
 }
 
 /// Where a thread stands in the code, with its control variables.

@@ -22,7 +22,7 @@ use crate::course::{Course, Plan, Step};
 use crate::log::{Logged, replay_log};
 use crate::stop::ResumeStop;
 use crate::waves::{Leader, go_wave};
-use crew::Crew;
+use crew::{Crew, MeanSteps};
 use gp_base::{End, Inputs, Journal, Limits, Nums, Seq, Sink, SinkFault, Text, put_all};
 use reorder_list::Report;
 use std::alloc::Global;
@@ -148,6 +148,7 @@ pub fn resume_drive<R: Threads + Sync, C: Crew, O: Sink>(
     inputs: Inputs,
     limits: Limits,
     log: &Text,
+    mean_steps: &MeanSteps,
     crew: &mut C,
     out: &mut O,
 ) -> Result<(u64, Report), ResumeStop>
@@ -171,6 +172,7 @@ pub fn resume_drive<R: Threads + Sync, C: Crew, O: Sink>(
         work: w,
         inputs: Snapshot::of(&inputs),
         limits,
+        mean_steps,
     };
     let Inputs { records, feeds: _ } = inputs;
     let (course, logged) = restored(alloc, &plan, layout, records, log)?;

@@ -1,6 +1,6 @@
 // Subthreads that a crew runs beside one another.
 
-ghost use Rattle.std.specs.Prelude.{◌≡◌, ◌-◌, ◌<◌, ◌≤◌, ℕ, true, false, [], ◌∷◌, ◌++◌, List, length, slice_set, Some, All, Contains, OnOk, OnErr, IfOk};
+ghost use Rattle.std.specs.Prelude.{◌≡◌, ◌-◌, ◌<◌, ◌≤◌, ℕ, true, false, [], ◌∷◌, ◌++◌, List, length, slice_set, Some, All, Contains, OnOk, OnErr, IfOk, IfSome, IfNone};
 ghost use Rattle.std.specs.List.Sorted.{IsStrictlyIncreasing};
 ghost use Rattle.task_ast.specs.Plain.{Plain};
 ghost use Rattle.record_store.specs.Lent.{marked, MayComeHome};
@@ -13,7 +13,7 @@ ghost use Rattle.gp_resume.specs.inner.Handed.{bare_task, task_begun, IsLeft};
 ghost use Rattle.gp_resume.specs.inner.Flights.{Flown, Flight, Joins, task_from};
 ghost use Rattle.gp_resume.specs.inner.Going.{rest, firsts_from};
 ghost use Rattle.gp_resume.specs.inner.Flights.{StandsPast};
-ghost use Rattle.gp_resume.specs.inner.Waves.{tasks_of, subthreads, IsJoining, BeginsFirst, Sent, ArePlaced, AreEmpty, AreRunsOf, IsComing, WentBy};
+ghost use Rattle.gp_resume.specs.inner.Waves.{tasks_of, subthreads, IsJoining, BeginsFirst, Sent, ArePlaced, IsAlone, AreEmpty, AreRunsOf, IsComing, WentBy};
 ghost use Rattle.gp_resume.specs.meaning.Resumed.{lines_of};
 ghost use Rattle.gp_resume.specs.Resuming.{IsRefused, HasResumeCause};
 ghost use Rattle.gp_base.specs.meaning.Sinks.{AppendsPrefix};
@@ -23,7 +23,7 @@ ghost use Rattle.restart_log.specs.meaning.Lines.{printed};
 use crate::course::{Begun, Course, Plan};
 use crate::drive::put;
 use crate::stop::ResumeStop;
-use crew::Crew;
+use crew::{Crew, worth};
 use gp_base::{Lines, Pos, Seq, Sink};
 use record_store::{Given, Store};
 use restart_log::printed;
@@ -95,23 +95,23 @@ fn hand<R: Threads + Sync, C: Crew>(rt: &R, crew: &mut C, task: Task) -> Result<
     }
 }
 
-// Posts the subthread that begins; the cells of its locks go out with it. The error is that memory is out; nothing is
-// said then of the course.
+// Posts the subthread that begins; the cells of its locks go out with it. Gives how many steps it is reckoned to make. The
+// error is that memory is out; nothing is said then of the course.
 fn send<R: Threads + Sync, C: Crew>(
     rt: &R,
     alloc: Global,
-    _plan: &Plan,
+    plan: &Plan,
     course: &mut Course,
     crew: &mut C,
     begun: Begun,
-) -> Result<(), AllocError>
-    requires suits { IsSuited _plan.now }
-    requires joins { IsJoining _plan.now begun course.old }
+) -> Result<u64, AllocError>
+    requires suits { IsSuited plan.now }
+    requires joins { IsJoining plan.now begun course.old }
     requires ready { C.ready crew.old }
-    requires work { C.work crew.old ≡ _plan.now.work.now }
+    requires work { C.work crew.old ≡ plan.now.work.now }
     requires fresh { ¬ Contains (C.posted crew.old) (begun.pos, 0) }
-    ensures flight { OnOk result ((threads : ℕ) (x : Plain) (fs : List Flown) (f : Flown) → f.begun ≡ begun → Joins _plan.now threads x fs f course.old → Flight _plan.now threads x f.after (fs ++ f ∷ []) course.new) }
-    ensures out { OnOk result ((threads : ℕ) (x : Plain) (fs : List Flown) (f : Flown) → f.begun ≡ begun → Joins _plan.now threads x fs f course.old → C.out crew.new ≡ C.out crew.old ++ task_from _plan.now.work.now x.state begun ∷ []) }
+    ensures flight { OnOk result ((threads : ℕ) (x : Plain) (fs : List Flown) (f : Flown) → f.begun ≡ begun → Joins plan.now threads x fs f course.old → Flight plan.now threads x f.after (fs ++ f ∷ []) course.new) }
+    ensures out { OnOk result ((threads : ℕ) (x : Plain) (fs : List Flown) (f : Flown) → f.begun ≡ begun → Joins plan.now threads x fs f course.old → C.out crew.new ≡ C.out crew.old ++ task_from plan.now.work.now x.state begun ∷ []) }
     ensures ring { course.new.ring ≡ course.old.ring }
     ensures ready { C.ready crew.new }
     ensures work { C.work crew.new ≡ C.work crew.old }
@@ -119,12 +119,19 @@ fn send<R: Threads + Sync, C: Crew>(
     ensures posted_kept { OnErr result (C.posted crew.new ≡ C.posted crew.old) }
 {
     let task = task_begun(alloc, &mut course.store, begun)?;
+    let steps = plan.mean_steps.reckoned(&task);
     hand(rt, crew, task)?;
-    Ok(())
+    Ok(steps)
 }
 
-// Posts the subthread that begins, and those that can begin beside it before any of them was run. Gives a place for the
-// run of each. The error is that memory is out; some were posted then.
+// Whether subthreads that make so many steps, one of each of so many threads, are worth a second worker.
+fn are_worth_two(steps: u64, threads: usize) -> bool {
+    worth(steps.saturating_mul(threads as u64), steps) > 1
+}
+
+// Posts the subthread that begins. Where subthreads like it are worth a second worker, it posts those too that can begin
+// beside it before any of them was run, and gives a place for the run of each. The error is that memory is out; some were
+// posted then.
 fn send_all<R: Threads + Sync, C: Crew>(
     rt: &R,
     alloc: Global,
@@ -133,7 +140,7 @@ fn send_all<R: Threads + Sync, C: Crew>(
     crew: &mut C,
     threads: usize,
     first: Begun,
-) -> Result<Vec<Option<Done>>, AllocError>
+) -> Result<Option<Vec<Option<Done>>>, AllocError>
     requires suits { IsSuited plan.now }
     requires begins { BeginsFirst plan.now threads first course.old }
     requires closed { course.old.ring.cleared ≡ false }
@@ -142,19 +149,23 @@ fn send_all<R: Threads + Sync, C: Crew>(
     requires none_out { C.out crew.old ≡ [] }
     requires fresh { (p : ℕ) → first.pos ≤ p → ¬ Contains (C.posted crew.old) (p, 0) }
     ensures sent { OnOk result ((x : Plain) (f : Flown) → f.begun ≡ first → Joins plan.now threads x [] f course.old → Sent plan.now threads x (C.posted crew.old) (C.posted crew.new) (C.out crew.new) course.new) }
-    ensures places { IfOk result (λ places. AreEmpty (C.out crew.new) places.items) }
+    ensures alone { IfOk result (λ beside. IfNone beside (IsAlone (C.out crew.new))) }
+    ensures places { IfOk result (λ beside. IfSome beside (λ places. AreEmpty (C.out crew.new) places.items)) }
     ensures some { (x : Plain) (f : Flown) → f.begun ≡ first → Joins plan.now threads x [] f course.old → (n : ℕ) × (n ≤ length (rest plan.now x)) × (C.posted crew.new ≡ C.posted crew.old ++ firsts_from x.table.issued n) }
     ensures ready { C.ready crew.new }
     ensures work { C.work crew.new ≡ C.work crew.old }
 {
+    let steps = send(rt, alloc, plan, course, crew, first)?;
+    if !are_worth_two(steps, threads) {
+        return Ok(None);
+    }
     let mut places = Vec::new(alloc);
-    send(rt, alloc, plan, course, crew, first)?;
     places.push(None)?;
     'sending: while let Some(begun) = course.next_beside(alloc, plan, threads)? {
         send(rt, alloc, plan, course, crew, begun)?;
         places.push(None)?;
     }
-    Ok(places)
+    Ok(Some(places))
 }
 
 // How many places after the first a position stands.
@@ -209,6 +220,22 @@ fn collect<R: Threads + Sync, C: Crew>(
                 runs = keep(runs, at, done);
             }
         }
+    }
+}
+
+// The run of the only task that is out.
+fn run_alone<R: Threads + Sync, C: Crew>(rt: &R, crew: &mut C) -> Result<Done, AllocError>
+    requires ready { C.ready crew.old }
+    requires alone { IsAlone (C.out crew.old) }
+    ensures ready { C.ready crew.new }
+    ensures work { C.work crew.new ≡ C.work crew.old }
+    ensures none_left { OnOk result (C.out crew.new ≡ []) }
+    ensures posted { C.posted crew.new ≡ C.posted crew.old }
+    ensures runs { IfOk result (λ done. AreRunsOf (C.work crew.old) (C.out crew.old) (Some done ∷ [])) }
+{
+    match crew.next(rt)? {
+        Some(done) => Ok(done),
+        None => unreachable!(),
     }
 }
 
@@ -267,6 +294,28 @@ fn bring_home<O: Sink>(
     Ok(())
 }
 
+// Takes what the run of the only task leaves, and writes the lines that it printed.
+fn bring_alone<O: Sink>(
+    alloc: Global,
+    _plan: &Plan,
+    course: &mut Course,
+    out: &mut O,
+    done: Done,
+) -> Result<(), ResumeStop>
+    requires suits { IsSuited _plan.now }
+    requires coming { IsComing _plan.now (Some done ∷ []) course.old }
+    ensures stands { OnOk result ((threads : ℕ) (x : Plain) (y : Plain) (fs : List Flown) → Flight _plan.now threads x y fs course.old → AreRunsOf _plan.now.work.now (tasks_of _plan.now x fs) (Some done ∷ []) → StandsPast _plan.now y course.new) }
+    ensures lines { OnOk result ((threads : ℕ) (x : Plain) (y : Plain) (fs : List Flown) → Flight _plan.now threads x y fs course.old → AreRunsOf _plan.now.work.now (tasks_of _plan.now x fs) (Some done ∷ []) → Appends (O.written out.old) (O.written out.new) (printed (lines_of (subthreads fs)))) }
+    ensures partly { (threads : ℕ) (x : Plain) (y : Plain) (fs : List Flown) → Flight _plan.now threads x y fs course.old → AreRunsOf _plan.now.work.now (tasks_of _plan.now x fs) (Some done ∷ []) → AppendsPrefix (O.written out.old) (O.written out.new) (printed (lines_of (subthreads fs))) }
+    ensures cause { HasResumeCause (O.faults out.old) (O.faults out.new) result }
+    ensures told { ¬ IsRefused result }
+{
+    let lines = take(course, done);
+    let text = printed(alloc, &lines)?;
+    put(out, &text)?;
+    Ok(())
+}
+
 // The position of the subthread that begins.
 fn position_begun(begun: &Begun) -> Pos
     ensures { result ≡ begun.now.pos }
@@ -282,8 +331,9 @@ pub struct Leader {
 }
 
 /// Has a crew run the subthread that begins, and those that can begin beside it, which are of the threads that were
-/// there before it, takes what they leave, and writes their lines, all in order. The error is that memory is out, or
-/// that the output took no more; a part of the lines is written then.
+/// there before it, takes what they leave, and writes their lines, all in order. It goes alone where it is reckoned to be
+/// so light that one like it of each thread would be worth one worker. The error is that memory is out, or that the
+/// output took no more; a part of the lines is written then.
 pub fn go_wave<R: Threads + Sync, C: Crew, O: Sink>(
     rt: &R,
     alloc: Global,
@@ -314,8 +364,16 @@ pub fn go_wave<R: Threads + Sync, C: Crew, O: Sink>(
         begun: first,
     } = leader;
     let position = position_begun(&first);
-    let places = send_all(rt, alloc, plan, course, crew, threads, first)?;
-    let runs = collect(rt, crew, position, places)?;
-    bring_home(alloc, plan, course, out, runs)?;
-    Ok(())
+    match send_all(rt, alloc, plan, course, crew, threads, first)? {
+        None => {
+            let done = run_alone(rt, crew)?;
+            bring_alone(alloc, plan, course, out, done)?;
+            Ok(())
+        }
+        Some(places) => {
+            let runs = collect(rt, crew, position, places)?;
+            bring_home(alloc, plan, course, out, runs)?;
+            Ok(())
+        }
+    }
 }

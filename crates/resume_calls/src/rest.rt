@@ -9,7 +9,7 @@ ghost use Rattle.resume_calls.specs.inner.Resting.{IsPlanOf, PutsFirst, PutsTail
 
 use crate::plan::Plan;
 use call_cases::end_status;
-use crew::Crew;
+use crew::{Crew, MeanSteps};
 use gp_base::{Inputs, Limits, Sink, Text};
 use gp_resume::{ResumeStop, ends_no_line, put, resume_drive};
 use lock_checker::Checked;
@@ -55,6 +55,7 @@ fn drive_rest<R: Threads + Sync, C: Crew, O: Sink>(
     inputs: Inputs,
     limits: Limits,
     log: &Text,
+    mean_steps: &MeanSteps,
     crew: &mut C,
     out: &mut O,
 ) -> Result<(u64, Report), ResumeStop>
@@ -66,10 +67,10 @@ fn drive_rest<R: Threads + Sync, C: Crew, O: Sink>(
     requires none_posted { C.posted crew.old ≡ [] }
     ensures { Drives (program_in code.now) inputs limits log.now (change_of O.written O.faults out.old out.new) result }
 {
-    resume_drive(rt, alloc, code, layout, inputs, limits, log, crew, out)
+    resume_drive(rt, alloc, code, layout, inputs, limits, log, mean_steps, crew, out)
 }
 
-/// Goes on with the run of a plan from the text of its log, by a crew to which nothing was posted, and writes the text
+/// Goes on with the run of a plan from the text of its log, by a crew to which nothing was posted and which keeps this table of mean steps, and writes the text
 /// that is still to come: the first line where it was not written before, the printed lines, and the tail. The answer
 /// is the status.
 pub fn put_rest<R: Threads + Sync, C: Crew, O: Sink>(
@@ -78,6 +79,7 @@ pub fn put_rest<R: Threads + Sync, C: Crew, O: Sink>(
     code: &Work,
     plan: Plan,
     log: &Text,
+    mean_steps: &MeanSteps,
     crew: &mut C,
     out: &mut O,
 ) -> Result<u8, ResumeStop>
@@ -99,7 +101,7 @@ pub fn put_rest<R: Threads + Sync, C: Crew, O: Sink>(
         Ok(()) => {}
         Err(stop) => return Err(stop),
     }
-    let report = match drive_rest(rt, alloc, code, layout, inputs, limits, log, crew, out) {
+    let report = match drive_rest(rt, alloc, code, layout, inputs, limits, log, mean_steps, crew, out) {
         Ok((_, report)) => report,
         Err(stop) => return Err(stop),
     };

@@ -43,7 +43,7 @@ fn put_by_waves<R: Threads + Sync, O: Sink, G: Gate>(
         ensures { IfOk result (AreRuns work.entry.now tasks) }
     { run_wave(rt, alloc, work, gate, &mean_steps, WORKERS, tasks) };
     let mut crew = BatchCrew::new(alloc, work, run_all);
-    put_rest(rt, alloc, work, plan, log, &mut crew, out)
+    put_rest(rt, alloc, work, plan, log, &mean_steps, &mut crew, out)
 }
 
 /// Goes on with what is requested from the text of its log, and writes the text that is still to come. The answer is

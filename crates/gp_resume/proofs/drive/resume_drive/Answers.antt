@@ -14,7 +14,7 @@ use Rattle.gp_resume.proofs.drive.resume_drive.Goals.{In_ok-course}
 
 -- the course stands where the rows of the log leave the run
 replays : (g : _) (c : In_ok-course g)
-    → Replays (record { work = c.args.w; inputs = c.of.result; limits = c.args.limits }) c.args.log.now c.in_ok-course.logged
+    → Replays (record { work = c.args.w; inputs = c.of.result; limits = c.args.limits; mean_steps = c.args.mean_steps }) c.args.log.now c.in_ok-course.logged
     c.in_ok-course.course
 replays g c = c.in_ok-course.ensures.replays
 
@@ -49,7 +49,7 @@ returns-in_err-end-clause-partly g c =
     → AppendsPrefix (g.O.Sink.written c.args.out.now) (g.O.Sink.written c.go_on.new.out)
     (printed (lines (program_in c.args.w.now) inputs c.args.limits rows)))
     c.of.ensures
-    (λ rows is_log. all-partly (record { work = c.args.w; inputs = c.of.result; limits = c.args.limits }) c.args.log.now
+    (λ rows is_log. all-partly (record { work = c.args.w; inputs = c.of.result; limits = c.args.limits; mean_steps = c.args.mean_steps }) c.args.log.now
     c.in_ok-course.logged c.in_ok-course.course (replays g at) rows is_log (g.O.Sink.written c.args.out.now)
     (g.O.Sink.written c.go_on.new.out) c.go_on.ensures.partly)
 
@@ -59,14 +59,14 @@ returns-in_err-end-clause-some g c =
     subst (λ inputs. (rows : List Retirement) → IsLogOf (program_in c.args.w.now) inputs c.args.limits c.args.log.now rows
     → AreSomeOnce (g.C.Crew.posted c.go_on.new.crew) (length rows) (count (program_in c.args.w.now) inputs c.args.limits rows))
     c.of.ensures
-    (λ rows is_log. all-some (record { work = c.args.w; inputs = c.of.result; limits = c.args.limits }) c.args.log.now
+    (λ rows is_log. all-some (record { work = c.args.w; inputs = c.of.result; limits = c.args.limits; mean_steps = c.args.mean_steps }) c.args.log.now
     c.in_ok-course.logged c.in_ok-course.course (replays g at) rows is_log (g.C.Crew.posted c.go_on.new.crew) c.go_on.ensures.some)
 
 pub text_bytes-requires : goal.text_bytes-requires
 text_bytes-requires g c =
     let at = (goal.at.text_bytes-requires g c).In_ok-course in
     record {
-      natural = log-bytes (record { work = c.args.w; inputs = c.of.result; limits = c.args.limits }) c.args.log.now
+      natural = log-bytes (record { work = c.args.w; inputs = c.of.result; limits = c.args.limits; mean_steps = c.args.mean_steps }) c.args.log.now
           c.in_ok-course.logged c.in_ok-course.course (replays g at);
     }
 
@@ -86,7 +86,7 @@ returns-clause-report g c =
     subst (λ inputs. (rows : List Retirement) → IsLogOf (program_in c.args.w.now) inputs c.args.limits c.args.log.now rows
     → ReportsRest (program_in c.args.w.now) inputs c.args.limits rows c.text_bytes.result c.report_of.result)
     c.of.ensures
-    (λ rows is_log. all-reports (record { work = c.args.w; inputs = c.of.result; limits = c.args.limits }) c.args.log.now
+    (λ rows is_log. all-reports (record { work = c.args.w; inputs = c.of.result; limits = c.args.limits; mean_steps = c.args.mean_steps }) c.args.log.now
     c.in_ok-course.logged c.in_ok-course.course (replays g at) rows is_log c.in_ok-end.end c.go_on.new.course c.in_ok-end.ensures.end
     c.text_bytes.result c.report_of.result c.text_bytes.ensures c.report_of.ensures.end c.report_of.ensures.records
     c.report_of.ensures.subthreads c.report_of.ensures.unused c.report_of.ensures.events c.report_of.ensures.restarts)
@@ -98,7 +98,7 @@ returns-clause-lines g c =
     → Appends (g.O.Sink.written c.args.out.now) (g.O.Sink.written c.go_on.new.out)
     (printed (lines (program_in c.args.w.now) inputs c.args.limits rows)))
     c.of.ensures
-    (λ rows is_log. all-lines (record { work = c.args.w; inputs = c.of.result; limits = c.args.limits }) c.args.log.now
+    (λ rows is_log. all-lines (record { work = c.args.w; inputs = c.of.result; limits = c.args.limits; mean_steps = c.args.mean_steps }) c.args.log.now
     c.in_ok-course.logged c.in_ok-course.course (replays g at) rows is_log (g.O.Sink.written c.args.out.now)
     (g.O.Sink.written c.go_on.new.out) c.in_ok-end.ensures.lines)
 
@@ -109,7 +109,7 @@ returns-clause-partly g c =
     → AppendsPrefix (g.O.Sink.written c.args.out.now) (g.O.Sink.written c.go_on.new.out)
     (printed (lines (program_in c.args.w.now) inputs c.args.limits rows)))
     c.of.ensures
-    (λ rows is_log. all-partly (record { work = c.args.w; inputs = c.of.result; limits = c.args.limits }) c.args.log.now
+    (λ rows is_log. all-partly (record { work = c.args.w; inputs = c.of.result; limits = c.args.limits; mean_steps = c.args.mean_steps }) c.args.log.now
     c.in_ok-course.logged c.in_ok-course.course (replays g at) rows is_log (g.O.Sink.written c.args.out.now)
     (g.O.Sink.written c.go_on.new.out) c.go_on.ensures.partly)
 
@@ -119,7 +119,7 @@ returns-clause-posts g c =
     subst (λ inputs. (rows : List Retirement) → IsLogOf (program_in c.args.w.now) inputs c.args.limits c.args.log.now rows
     → IsEachOnce (g.C.Crew.posted c.go_on.new.crew) (length rows) (count (program_in c.args.w.now) inputs c.args.limits rows))
     c.of.ensures
-    (λ rows is_log. all-posts (record { work = c.args.w; inputs = c.of.result; limits = c.args.limits }) c.args.log.now
+    (λ rows is_log. all-posts (record { work = c.args.w; inputs = c.of.result; limits = c.args.limits; mean_steps = c.args.mean_steps }) c.args.log.now
     c.in_ok-course.logged c.in_ok-course.course (replays g at) rows is_log (g.C.Crew.posted c.go_on.new.crew) c.in_ok-end.ensures.posts)
 
 pub returns-clause-some : goal.returns-clause-some
@@ -128,5 +128,5 @@ returns-clause-some g c =
     subst (λ inputs. (rows : List Retirement) → IsLogOf (program_in c.args.w.now) inputs c.args.limits c.args.log.now rows
     → AreSomeOnce (g.C.Crew.posted c.go_on.new.crew) (length rows) (count (program_in c.args.w.now) inputs c.args.limits rows))
     c.of.ensures
-    (λ rows is_log. all-some (record { work = c.args.w; inputs = c.of.result; limits = c.args.limits }) c.args.log.now
+    (λ rows is_log. all-some (record { work = c.args.w; inputs = c.of.result; limits = c.args.limits; mean_steps = c.args.mean_steps }) c.args.log.now
     c.in_ok-course.logged c.in_ok-course.course (replays g at) rows is_log (g.C.Crew.posted c.go_on.new.crew) c.go_on.ensures.some)
