@@ -20,11 +20,13 @@ use Rattle.task_ast.specs.meaning.Tree.{Name}
 use Rattle.gp_audit.specs.declared.line.TraceLine.{TraceLine}
 use Rattle.gp_audit.specs.declared.line.TraceFault.{TraceFault}
 use Rattle.gp_audit.specs.declared.line.TraceFault.TheVariants as fault
-use Rattle.gp_audit.specs.meaning.Lines.{line_text, lines_text, IsNarrowLine}
+use Rattle.gp_audit.specs.LineTexts.{line_text, lines_text, IsNarrowLine}
+use Rattle.gp_audit.specs.meaning.Lines.{IsTrace}
 use Rattle.gp_audit.specs.meaning.Reading.{IsBrokenAt}
 use Rattle.gp_audit.specs.Reading.{AnswersTrace}
 use Rattle.gp_audit.proofs.Once.{lines_once, read_once}
 use Rattle.gp_audit.proofs.Parts.{cancel}
+use Rattle.gp_audit.proofs.TraceTexts.{trace-read, broken-read}
 use Rattle.gp_audit.proofs.Traces.{few-lines}
 use Rattle.call_cases.specs.declared.reading.Refusal.{Refusal}
 use Rattle.call_cases.specs.declared.reading.Refusal.TheVariants.{Usage, BadProgram, BadInput, ReadFault, OutOfMemory}
@@ -96,7 +98,7 @@ same_row xs ys r s nx ny none_r none_s same =
 ok_reading : (bytes : List ℕ) (lines : List TraceLine) (other : Result (List TraceLine) ℕ) → Reads bytes (Ok lines) → Reads bytes other
     → other ≡ Ok lines
 ok_reading bytes lines other is reads =
-    elim (read_once lines is.0 (told other) (subst (λ text. AnswersTrace text (told other)) is.1 (told_reads bytes other reads))) [
+    elim (read_once bytes lines is (told other) (told_reads bytes other reads)) [
       | inl same ↦ told_lines other lines same
       | inr out ↦ absurd (told_something other out)
     ]
@@ -106,15 +108,18 @@ pub one_reading : (bytes : List ℕ) (a b : Result (List TraceLine) ℕ) → Rea
 one_reading bytes (Ok lines) b is other = sym (ok_reading bytes lines b is other)
 one_reading bytes (Err row) (Ok lines) is other = ok_reading bytes lines (Err row) other is
 one_reading bytes (Err row) (Err number) is other =
+    let a = broken-read bytes row is in
+    let b = broken-read bytes number other in
     ap Err
-    (is.counted
-    ∙ (ap (λ n. n + 1) (same_row is.lines other.lines is.rest other.rest is.narrow other.narrow is.no_line other.no_line
-    (sym is.bytes_are ∙ other.bytes_are)) ∙ sym other.counted))
+    (a.counted
+    ∙ (ap (λ n. n + 1) (same_row a.lines b.lines a.rest b.rest a.narrow b.narrow a.no_line b.no_line (sym a.bytes_are ∙ b.bytes_are))
+    ∙ sym b.counted))
 
 -- no more lines than there may be bytes
-pub few_read : (text : List ℕ) (lines : List TraceLine) → length text ≤ MOST_FILE_BYTES → text ≡ lines_text lines
-    → length lines < 4294967295
-few_read text lines within is = let few = few-lines text [] lines (is ∙ sym (append-nil (lines_text lines))) in omega (arith, few)
+pub few_read : (text : List ℕ) (lines : List TraceLine) → length text ≤ MOST_FILE_BYTES → IsTrace text lines → length lines < 4294967295
+few_read text lines within is =
+    let few = few-lines text [] lines ((trace-read text lines is).1 ∙ sym (append-nil (lines_text lines))) in
+    omega (arith, few)
 
 -- no read failed at a refusal of a text
 pub input_unread : (T : Type 0) (names failed : List Name) (line : List ℕ) (refusal : Refusal) → IsInputRefused line refusal

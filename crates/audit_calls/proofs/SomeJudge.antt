@@ -21,10 +21,12 @@ use Rattle.gp_audit.specs.declared.line.TraceLine.{TraceLine}
 use Rattle.gp_audit.specs.declared.line.TraceLine.TheVariants as line
 use Rattle.gp_audit.specs.declared.verdict.Verdict.{Verdict}
 use Rattle.gp_audit.specs.declared.verdict.Verdict.TheVariants.{Lawful, Unlawful, Incomplete}
-use Rattle.gp_audit.specs.meaning.Lines.{line_text, lines_text, redo_end, restart_end, IsNarrow, IsNarrowLine, IsNarrowRestart}
-use Rattle.gp_audit.specs.meaning.Verdicts.{events_of, restarts_told, LawfulLines, IsVerdict}
+use Rattle.gp_audit.specs.LineTexts.{line_text, lines_text, redo_end, restart_end, IsNarrow, IsNarrowLine, IsNarrowRestart}
+use Rattle.gp_audit.specs.ToldLines.{events_of, restarts_told, TellLawful, IsToldVerdict}
 use Rattle.gp_audit.proofs.Parts.{cancel}
 use Rattle.gp_audit.proofs.Restarts.{head, parts, first_apart}
+use Rattle.gp_audit.proofs.ToldVerdicts.{told-verdict}
+use Rattle.gp_audit.proofs.TraceTexts.{trace-of, broken-of}
 use Rattle.gp_audit.proofs.Traces.{text-next, few-lines}
 use Rattle.audit_calls.specs.meaning.Tried.{Reads, Judge}
 
@@ -86,7 +88,7 @@ same_restart a b =
     ]
 
 module _ (dependence : Dependence) (faults : List Fault) where
-  lawful_lines : (lines : List TraceLine) → Choice (LawfulLines dependence faults lines)
+  lawful_lines : (lines : List TraceLine) → Choice (TellLawful dependence faults lines)
   lawful_lines lines =
       elim (decided_by (is_lawful dependence faults (events_of lines)) (lawful-decides dependence faults (events_of lines))) [
         | inl lawful ↦ elim (begins same_restart (restarts_told lines) (restarts dependence faults)) [
@@ -97,16 +99,16 @@ module _ (dependence : Dependence) (faults : List Fault) where
       ]
 
   abbrev Judged : List TraceLine → Type 0
-  Judged lines = (verdict : Verdict) × IsVerdict dependence faults lines verdict
+  Judged lines = (verdict : Verdict) × IsToldVerdict dependence faults lines verdict
 
-  judged_whole : (lines : List TraceLine) → LawfulLines dependence faults lines → Judged lines
+  judged_whole : (lines : List TraceLine) → TellLawful dependence faults lines → Judged lines
   judged_whole lines lawful =
       elim (decided_by (is_complete dependence faults (events_of lines)) (complete-decides dependence faults (events_of lines))) [
         | inl whole ↦ (Lawful, (lawful, whole))
         | inr not ↦ (Incomplete, (lawful, not))
       ]
 
-  judged_from : (before later : List TraceLine) → LawfulLines dependence faults before → Judged (before ++ later)
+  judged_from : (before later : List TraceLine) → TellLawful dependence faults before → Judged (before ++ later)
   judged_from before [] lawful = subst Judged (sym (append-nil before)) (judged_whole before lawful)
   judged_from before (next ∷ later) lawful =
       elim (lawful_lines (before ++ next ∷ [])) [
@@ -295,7 +297,10 @@ line_at bytes =
 read_from : (fuel : ℕ) (bytes : List ℕ) (lines : List TraceLine) (rest : List ℕ) → length rest ≤ fuel → All IsNarrowLine lines
     → bytes ≡ lines_text lines ++ rest
     → (result : Result (List TraceLine) ℕ) × Reads bytes result
-read_from fuel bytes lines [] short narrow is = (Ok lines, (narrow, is ∙ append-nil (lines_text lines)))
+read_from fuel bytes lines [] short narrow is = (
+  Ok lines,
+  trace-of bytes lines narrow (is ∙ append-nil (lines_text lines)),
+)
 read_from zero bytes lines (b ∷ rest) short narrow is = absurd (omega (arith, short))
 read_from (suc fuel) bytes lines (b ∷ rest) short narrow is =
     elim (line_at (b ∷ rest)) [
@@ -309,7 +314,7 @@ read_from (suc fuel) bytes lines (b ∷ rest) short narrow is =
           (All-push IsNarrowLine lines l narrow found.1) (text-next bytes (b ∷ rest) later lines l is found.2.1)
       | inr none ↦ (
         Err (length lines + 1),
-        record {
+        broken-of bytes (length lines + 1) (record {
           lines = lines;
           narrow = narrow;
           rest = b ∷ rest;
@@ -317,7 +322,7 @@ read_from (suc fuel) bytes lines (b ∷ rest) short narrow is =
           some_row = λ nothing. cc nothing;
           no_line = λ l after n same. none (l, n, (after, same));
           counted = refl;
-        },
+        }),
       )
     ]
 
@@ -328,5 +333,6 @@ some_judge =
       lines_of = λ bytes. (read bytes).0;
       reads = λ bytes. (read bytes).1;
       verdict_of = λ dependence faults lines. (judged dependence faults lines).0;
-      judges = λ dependence faults lines. (judged dependence faults lines).1;
+      judges = λ dependence faults lines.
+          (let found = judged dependence faults lines in told-verdict dependence faults lines found.0 found.1);
     }

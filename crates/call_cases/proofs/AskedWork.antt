@@ -21,6 +21,7 @@ use Rattle.task_ast.specs.meaning.Check.{check_fault}
 use Rattle.task_ast.specs.declared.check_kind.CheckKind.{CheckKind}
 use Rattle.task_parser.specs.meaning.Spelling.{Meaning, Stands, LexFails, ParseFails}
 use Rattle.batch_files.specs.meaning.Rows.{Broken, csv_rows}
+use Rattle.batch_files.specs.meaning.Faults.{faults_by}
 use Rattle.command_line.specs.meaning.Numbers.{number_between}
 use Rattle.command_line.specs.meaning.Arguments.{is_faultless, number_or}
 use Rattle.command_line.specs.meaning.Words.{named_verb, app_for, command_in, program_in, faults_in, limits_in, crew_in, workers_in, asked_with, asked_in, asked_of, asked_among, both}
@@ -29,7 +30,7 @@ use Rattle.command_line.specs.declared.asked.Command.{Command}
 use Rattle.command_line.specs.declared.asked.CrewKind.{CrewKind}
 use Rattle.command_line.specs.declared.asked.Verb.{Verb}
 use Rattle.call_cases.specs.meaning.Work.{Files, ToDo, work_for, Case, Refused, Go, after_file}
-use Rattle.call_cases.specs.meaning.InputFiles.{by_rows, by_file, fault_rows, load_faults, supplied_for, then_load, with_faults, supplied_by}
+use Rattle.call_cases.specs.meaning.InputFiles.{by_rows, by_file, load_faults, supplied_for, then_load, with_faults, supplied_by}
 use Rattle.call_cases.specs.meaning.Case.{IsCaseOf, no_program, of_text, program_case, meant_case}
 use Rattle.call_cases.specs.meaning.Lines.{input_line}
 use Rattle.call_cases.specs.meaning.RunCommands.{asking_among}
@@ -103,14 +104,14 @@ narrow_rows : (names : List Name) (file : Name) (rows : Result (List Fault) Brok
 narrow_rows names file (Ok faults) is = is
 narrow_rows names file (Err broken) is = tt
 
-narrow_bytes : (names : List Name) (file : Name) (bytes : Option (List ℕ)) → SuppliesNarrow (by_file names file bytes fault_rows Go)
+narrow_bytes : (names : List Name) (file : Name) (bytes : Option (List ℕ)) → SuppliesNarrow (by_file names file bytes faults_by Go)
 narrow_bytes names file None = tt
 narrow_bytes names file (Some bytes) = go (nat_lt MOST_FILE_BYTES (length bytes))
   where
     go : (b : Bool) → SuppliesNarrow (if b then Refused 4 (names ++ file ∷ [])
-        (input_line file 6 0) else by_rows names file (fault_rows bytes) Go)
+        (input_line file 6 0) else by_rows names file (faults_by (csv_rows bytes)) Go)
     go true = tt
-    go false = narrow_rows names file (fault_rows bytes) (narrow_file (csv_rows bytes))
+    go false = narrow_rows names file (faults_by (csv_rows bytes)) (narrow_file (csv_rows bytes))
 
 narrow_load : (files : Files) (names : List Name) (file : Option Name) → SuppliesNarrow (load_faults files names file)
 narrow_load files names None = record { few = omega arith; narrow = All-nil IsNarrow }

@@ -22,7 +22,7 @@ use Rattle.call_cases.specs.declared.reading.Refusal.TheVariants.{Usage as Refus
 use Rattle.call_cases.specs.meaning.Work.{Files, Case, Refused, Go}
 use Rattle.call_cases.specs.meaning.Commands.{Commands, Log, MayLog, Unlogged, Logged}
 use Rattle.call_cases.specs.Commands.{AreSound, IsApart}
-use Rattle.call_cases.specs.meaning.Case.{IsCase, ForCase, ForRun, HasWork, names_read, status_of, text_of, due_of}
+use Rattle.call_cases.specs.meaning.Case.{IsCase, ForCase, ForRun, names_read, status_of, text_of, due_of}
 use Rattle.call_cases.specs.meaning.Lines.{usage_line, out_of_memory_line, write_fault_line}
 use Rattle.call_cases.specs.Refusals.{RefusesCase, RefusesWords, RefusesShelf, TakesRefusal, RefusalEnds, usage_told, program_told, input_told, read_told, refusal_no_memory, refusal_failed}
 use Rattle.call_cases.specs.meaning.Answers.{Change, TakesAll, TakesPart, IsUntouched, Fails, Grew, IsEmpty, IsStopLine, TakesStop, Yields, due_status, no_memory, read_fault, write_fault}

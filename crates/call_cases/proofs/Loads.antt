@@ -22,15 +22,16 @@ use Rattle.task_ast.specs.declared.tree.Head.{Head}
 use Rattle.task_ast.specs.declared.tree.Head.TheVariants.{LockHead, BarrierHead, RecHead, FeedHead}
 use Rattle.task_ast.specs.meaning.Tree.{Name}
 use Rattle.task_ast.specs.meaning.Names.{natural}
-use Rattle.batch_files.specs.meaning.Rows.{Broken, csv_rows}
+use Rattle.batch_files.specs.meaning.Rows.{Row, Broken, csv_rows}
 use Rattle.batch_files.specs.meaning.Records.{records_by}
 use Rattle.batch_files.specs.meaning.Feeds.{feed_by}
+use Rattle.batch_files.specs.meaning.Faults.{faults_by}
 use Rattle.call_cases.specs.declared.reading.Refusal.{Refusal}
 use Rattle.call_cases.specs.declared.reading.Refusal.TheVariants as refused
 use Rattle.call_cases.specs.meaning.Work.{Files, Case, Refused, Go}
 use Rattle.call_cases.specs.meaning.Case.{names_read}
 use Rattle.call_cases.specs.meaning.Lines.{input_line}
-use Rattle.call_cases.specs.meaning.InputFiles.{no_inputs, are_rows, feed_where, feed_with, with_cells, with_feed, room_after, record_rows, feed_rows, fault_rows, more_cells, more_feed, by_rows, by_file, load_faults, by_record, load_head, then_load, load}
+use Rattle.call_cases.specs.meaning.InputFiles.{no_inputs, are_rows, feed_where, feed_with, with_cells, with_feed, room_after, more_cells, more_feed, by_rows, by_file, load_faults, by_record, load_head, then_load, load}
 use Rattle.call_cases.specs.InputFiles.{named, names_in, file_names}
 use Rattle.call_cases.specs.inner.Loading.{IsReadable, AreReadable, IsRefusedBy, AnswersRows, StepsTo, AnswersLoad, AnswersFaults}
 use Rattle.call_cases.specs.Refusals.{ReadsAmong}
@@ -71,13 +72,13 @@ abbrev inputs_of : List ℤ → List Feed → Inputs
 inputs_of records feeds = record { records = records; feeds = feeds }
 
 -- a file whose rows mean something
-ok_file : {S T : Type 0} (names : List Name) (file : Name) (bytes : Option (List ℕ)) (meant : List ℕ → Result S Broken)
+ok_file : {S T : Type 0} (names : List Name) (file : Name) (bytes : Option (List ℕ)) (meant : List Row → Result S Broken)
     (next : List Name → S → Case T) (value : S)
-    → IsSomeAnd bytes (λ text. (length text ≤ MOST_FILE_BYTES) × (meant text ≡ Ok value))
+    → IsSomeAnd bytes (λ text. (length text ≤ MOST_FILE_BYTES) × (meant (csv_rows text) ≡ Ok value))
     → by_file names file bytes meant next ≡ next (names ++ file ∷ []) value
 ok_file names file None meant next value is = absurd is
 ok_file names file (Some text) meant next value is =
-    ap (λ b. if b then Refused 4 (names ++ file ∷ []) (input_line file 6 0) else by_rows names file (meant text) next) (fits text is.0)
+    ap (λ b. if b then Refused 4 (names ++ file ∷ []) (input_line file 6 0) else by_rows names file (meant (csv_rows text)) next) (fits text is.0)
     ∙ ap (λ r. by_rows names file r next) is.1
 
 -- a file that is refused with a line
@@ -95,12 +96,12 @@ spoils names file text line next (Err broken) (inr (told, within)) =
     ap (λ b. if b then Refused 4 (names ++ file ∷ []) (input_line file 6 0) else by_rows names file (Err broken) next) (fits text within)
     ∙ ap (Refused 4 (names ++ file ∷ [])) (sym told)
 
-pub bad_file : {S T : Type 0} (names : List Name) (file line : Name) (bytes : Option (List ℕ)) (meant : List ℕ → Result S Broken)
+pub bad_file : {S T : Type 0} (names : List Name) (file line : Name) (bytes : Option (List ℕ)) (meant : List Row → Result S Broken)
     (next : List Name → S → Case T)
-    → IsSomeAnd bytes (λ text. IsRefusedBy file line text (meant text))
+    → IsSomeAnd bytes (λ text. IsRefusedBy file line text (meant (csv_rows text)))
     → by_file names file bytes meant next ≡ Refused 4 (names ++ file ∷ []) line
 bad_file names file line None meant next is = absurd is
-bad_file names file line (Some text) meant next is = spoils names file text line next (meant text) is
+bad_file names file line (Some text) meant next is = spoils names file text line next (meant (csv_rows text)) is
 
 -- the files that are read stay among those that are read
 module _ (name : Name) where
@@ -120,13 +121,13 @@ module _ (name : Name) where
   keeps_long names file true rows first next keeps is = is
   keeps_long names file false rows first next keeps is = keeps_rows names file rows first next keeps is
 
-  pub keeps_file : {R S T : Type 0} (names : List Name) (file : Name) (bytes : Option (List ℕ)) (meant : List ℕ → Result R Broken)
+  pub keeps_file : {R S T : Type 0} (names : List Name) (file : Name) (bytes : Option (List ℕ)) (meant : List Row → Result R Broken)
       (first : List Name → R → Case S) (next : List Name → S → Case T)
       → ((n : List Name) (value : R) → Contains n name → Contains (names_read (then_load (first n value) next)) name)
       → Contains (names ++ file ∷ []) name → Contains (names_read (then_load (by_file names file bytes meant first) next)) name
   keeps_file names file None meant first next keeps is = is
   keeps_file names file (Some text) meant first next keeps is =
-      keeps_long names file (nat_lt MOST_FILE_BYTES (length text)) (meant text) first next keeps is
+      keeps_long names file (nat_lt MOST_FILE_BYTES (length text)) (meant (csv_rows text)) first next keeps is
 
   keeps_head : (files : Files) (names : List Name) (inputs : Inputs) (head : Head) (next : List Name → Inputs → Case Inputs)
       → ((n : List Name) (i : Inputs) → Contains n name → Contains (names_read (next n i)) name)
@@ -138,10 +139,10 @@ module _ (name : Name) where
   keeps_head files names inputs (RecHead x size by None line) next keeps is =
       keeps names _ (subst (λ l. Contains l name) (append-nil names) is)
   keeps_head files names inputs (RecHead x size by (Some file) line) next keeps is =
-      keeps_file names file (bytes_of files file) (record_rows (natural size)) (more_cells inputs) next
+      keeps_file names file (bytes_of files file) (records_by (natural size)) (more_cells inputs) next
       (λ n cells. keeps n (with_cells inputs cells)) is
   keeps_head files names inputs (FeedHead x fields file line) next keeps is =
-      keeps_file names file (bytes_of files file) (feed_rows (natural fields) (room_after inputs.feeds))
+      keeps_file names file (bytes_of files file) (feed_by (natural fields) (room_after inputs.feeds))
       (more_feed inputs (natural fields)) next (λ n cells. keeps n (with_feed inputs (feed_with (natural fields) cells))) is
 
   keeps_all : (files : Files) (heads : List Head) (names : List Name) (inputs : Inputs) → Contains names name
@@ -183,16 +184,16 @@ file_among (h ∷ heads) (suc i) head name below is file =
 -- the steps of a record's file
 pub record_ok : (names : List Name) (file : Name) (size : ℕ) (bytes : Option (List ℕ)) (inputs : Inputs) (cells : List ℤ)
     → IsSomeAnd bytes (λ text. (length text ≤ MOST_FILE_BYTES) × (records_by size (csv_rows text) ≡ Ok cells))
-    → by_file names file bytes (record_rows size) (more_cells inputs) ≡ Go (names ++ file ∷ []) (with_cells inputs cells)
-record_ok names file size bytes inputs cells is = ok_file names file bytes (record_rows size) (more_cells inputs) cells is
+    → by_file names file bytes (records_by size) (more_cells inputs) ≡ Go (names ++ file ∷ []) (with_cells inputs cells)
+record_ok names file size bytes inputs cells is = ok_file names file bytes (records_by size) (more_cells inputs) cells is
 
 pub record_bad : (names : List Name) (file : Name) (size : ℕ) (bytes : Option (List ℕ)) (inputs : Inputs) (refusal : Refusal)
-    → AnswersRows {A = List ℤ} (λ cells. cells) file (record_rows size) bytes (Err refusal)
-    → StepsTo {T = Unit {0}} names (file ∷ []) (by_file names file bytes (record_rows size) (more_cells inputs)) inputs (Err refusal)
+    → AnswersRows {A = List ℤ} (λ cells. cells) file (records_by size) bytes (Err refusal)
+    → StepsTo {T = Unit {0}} names (file ∷ []) (by_file names file bytes (records_by size) (more_cells inputs)) inputs (Err refusal)
 record_bad names file size bytes inputs refused.Usage is = is
 record_bad names file size bytes inputs (refused.BadProgram line) is = is
 record_bad names file size bytes inputs (refused.BadInput line) is =
-    (names ++ file ∷ [], bad_file names file line bytes (record_rows size) (more_cells inputs) is)
+    (names ++ file ∷ [], bad_file names file line bytes (records_by size) (more_cells inputs) is)
 record_bad names file size bytes inputs (refused.ReadFault name) is = tt
 record_bad names file size bytes inputs refused.OutOfMemory is = tt
 
@@ -200,42 +201,42 @@ record_bad names file size bytes inputs refused.OutOfMemory is = tt
 pub feed_ok : (names : List Name) (file : Name) (bytes : Option (List ℕ)) (inputs : Inputs) (feed : Feed)
     → IsSomeAnd bytes (λ text. (length text ≤ MOST_FILE_BYTES)
     × (feed_by feed.fields (room_after inputs.feeds) (csv_rows text) ≡ Ok feed.cells))
-    → by_file names file bytes (feed_rows feed.fields (room_after inputs.feeds)) (more_feed inputs feed.fields)
+    → by_file names file bytes (feed_by feed.fields (room_after inputs.feeds)) (more_feed inputs feed.fields)
     ≡ Go (names ++ file ∷ []) (with_feed inputs (Some feed))
 feed_ok names file bytes inputs feed is =
-    ok_file names file bytes (feed_rows feed.fields (room_after inputs.feeds)) (more_feed inputs feed.fields) feed.cells is
+    ok_file names file bytes (feed_by feed.fields (room_after inputs.feeds)) (more_feed inputs feed.fields) feed.cells is
     ∙ ap (λ f. Go (names ++ file ∷ []) (with_feed inputs f)) (feed_with-of feed)
 
 pub feed_bad : (names : List Name) (file : Name) (fields : ℕ) (bytes : Option (List ℕ)) (inputs : Inputs) (refusal : Refusal)
-    → AnswersRows {A = Feed} (λ feed. feed.cells) file (feed_rows fields (room_after inputs.feeds)) bytes (Err refusal)
+    → AnswersRows {A = Feed} (λ feed. feed.cells) file (feed_by fields (room_after inputs.feeds)) bytes (Err refusal)
     → StepsTo {T = Unit {0}} names (file ∷ [])
-    (by_file names file bytes (feed_rows fields (room_after inputs.feeds)) (more_feed inputs fields)) inputs (Err refusal)
+    (by_file names file bytes (feed_by fields (room_after inputs.feeds)) (more_feed inputs fields)) inputs (Err refusal)
 feed_bad names file fields bytes inputs refused.Usage is = is
 feed_bad names file fields bytes inputs (refused.BadProgram line) is = is
 feed_bad names file fields bytes inputs (refused.BadInput line) is =
-    (names ++ file ∷ [], bad_file names file line bytes (feed_rows fields (room_after inputs.feeds)) (more_feed inputs fields) is)
+    (names ++ file ∷ [], bad_file names file line bytes (feed_by fields (room_after inputs.feeds)) (more_feed inputs fields) is)
 feed_bad names file fields bytes inputs (refused.ReadFault name) is = tt
 feed_bad names file fields bytes inputs refused.OutOfMemory is = tt
 
 -- the same where the files are told
 pub records_bad : (told : Option Files) (file : Name) (size : ℕ) (inputs : Inputs) (refusal : Refusal)
-    → IfSome told (λ files. AnswersRows {A = List ℤ} (λ cells. cells) file (record_rows size) (bytes_of files file) (Err refusal))
+    → IfSome told (λ files. AnswersRows {A = List ℤ} (λ cells. cells) file (records_by size) (bytes_of files file) (Err refusal))
     → IfSome told (λ files. (names : List Name)
     → StepsTo {T = Unit {0}} names (file ∷ [])
-    (by_file names file (bytes_of files file) (record_rows size) (more_cells inputs)) inputs (Err refusal))
+    (by_file names file (bytes_of files file) (records_by size) (more_cells inputs)) inputs (Err refusal))
 records_bad None file size inputs refusal is = tt
 records_bad (Some files) file size inputs refusal is = λ names. record_bad names file size (bytes_of files file) inputs refusal is
 
 pub feeds_bad : (told : Option Files) (file : Name) (fields room : ℕ) (inputs : Inputs) (refusal : Refusal) → room ≡ room_after inputs.feeds
-    → IfSome told (λ files. AnswersRows {A = Feed} (λ feed. feed.cells) file (feed_rows fields room) (bytes_of files file) (Err refusal))
+    → IfSome told (λ files. AnswersRows {A = Feed} (λ feed. feed.cells) file (feed_by fields room) (bytes_of files file) (Err refusal))
     → IfSome told (λ files. (names : List Name)
     → StepsTo {T = Unit {0}} names (file ∷ [])
-    (by_file names file (bytes_of files file) (feed_rows fields (room_after inputs.feeds)) (more_feed inputs fields)) inputs
+    (by_file names file (bytes_of files file) (feed_by fields (room_after inputs.feeds)) (more_feed inputs fields)) inputs
     (Err refusal))
 feeds_bad None file fields room inputs refusal same is = tt
 feeds_bad (Some files) file fields room inputs refusal same is =
     λ names. feed_bad names file fields (bytes_of files file) inputs refusal
-    (subst (λ r. AnswersRows {A = Feed} (λ feed. feed.cells) file (feed_rows fields r) (bytes_of files file) (Err refusal)) same is)
+    (subst (λ r. AnswersRows {A = Feed} (λ feed. feed.cells) file (feed_by fields r) (bytes_of files file) (Err refusal)) same is)
 
 pub feeds_ok : (told : Option Files) (file : Name) (fields room : ℕ) (inputs after : Inputs) (feed : Feed) → room ≡ room_after inputs.feeds
     → feed.fields ≡ fields
@@ -243,7 +244,7 @@ pub feeds_ok : (told : Option Files) (file : Name) (fields room : ℕ) (inputs a
     → IfSome told (λ files. IsSomeAnd (bytes_of files file)
     (λ text. (length text ≤ MOST_FILE_BYTES) × (feed_by fields room (csv_rows text) ≡ Ok feed.cells)))
     → IfSome told (λ files. (names : List Name)
-    → by_file names file (bytes_of files file) (feed_rows fields (room_after inputs.feeds)) (more_feed inputs fields)
+    → by_file names file (bytes_of files file) (feed_by fields (room_after inputs.feeds)) (more_feed inputs fields)
     ≡ Go (names ++ file ∷ []) after)
 feeds_ok None file fields room inputs after feed same_room same_fields records feeds is = tt
 feeds_ok (Some files) file fields room inputs after feed same_room same_fields records feeds is =
@@ -254,7 +255,7 @@ feeds_ok (Some files) file fields room inputs after feed same_room same_fields r
     (λ text. (length text ≤ MOST_FILE_BYTES) × (feed_by f room (csv_rows text) ≡ Ok feed.cells))) (sym same_fields) is) in
     let grown : with_feed inputs (Some feed) ≡ after = ap₂ (λ r f. inputs_of r f) (sym records) (sym feeds) in
     λ names.
-    ap (λ f. by_file names file (bytes_of files file) (feed_rows f (room_after inputs.feeds)) (more_feed inputs f)) (sym same_fields)
+    ap (λ f. by_file names file (bytes_of files file) (feed_by f (room_after inputs.feeds)) (more_feed inputs f)) (sym same_fields)
     ∙ feed_ok names file (bytes_of files file) inputs feed meant
     ∙ ap (λ i. Go (names ++ file ∷ []) i) grown
 
@@ -371,7 +372,7 @@ zeros_step (Some files) from size inputs after is records feeds = λ names.
 pub cells_step : {T : Type 0} (told : Option Files) (from : Option Name) (file : Name) (size : ℕ) (inputs after : Inputs)
     (result : Result T Refusal) → from ≡ Some file
     → IfSome told (λ files. (names : List Name)
-    → StepsTo names (file ∷ []) (by_file names file (bytes_of files file) (record_rows size) (more_cells inputs)) after result)
+    → StepsTo names (file ∷ []) (by_file names file (bytes_of files file) (records_by size) (more_cells inputs)) after result)
     → IfSome told (λ files. (names : List Name) → StepsTo names (named from) (by_record files names inputs size from) after result)
 cells_step told from file size inputs after result is step =
     subst (λ f. IfSome told (λ files. (names : List Name) → StepsTo names (named f) (by_record files names inputs size f) after result))
@@ -393,14 +394,14 @@ pub feed_step : {T : Type 0} (told : Option Files) (head : Head) (name : Name) (
     (inputs after : Inputs) (result : Result T Refusal)
     → head ≡ FeedHead name fields file line → n ≡ natural fields
     → IfSome told (λ files. (names : List Name)
-    → StepsTo names (file ∷ []) (by_file names file (bytes_of files file) (feed_rows n (room_after inputs.feeds))
+    → StepsTo names (file ∷ []) (by_file names file (bytes_of files file) (feed_by n (room_after inputs.feeds))
     (more_feed inputs n)) after result)
     → IfSome told (λ files. (names : List Name) → StepsTo names (names_in head) (load_head files names inputs head) after result)
 feed_step told head name fields file line n inputs after result is same step =
     subst (λ h. IfSome told (λ files. (names : List Name) → StepsTo names (names_in h) (load_head files names inputs h) after result))
     (sym is)
     (subst (λ m. IfSome told (λ files. (names : List Name)
-    → StepsTo names (file ∷ []) (by_file names file (bytes_of files file) (feed_rows m (room_after inputs.feeds))
+    → StepsTo names (file ∷ []) (by_file names file (bytes_of files file) (feed_by m (room_after inputs.feeds))
     (more_feed inputs m)) after result)) same step)
 
 -- a list of one member holds no other
@@ -418,7 +419,7 @@ reads_faults : (name : Name) (files : Files) (names : List Name) (file : Name) �
     → Contains (names_read (load_faults files names (Some file))) name
 reads_faults name files names file is =
     subst (λ l. Contains l name) (then_names (λ (faults : List Fault). faults) (load_faults files names (Some file)))
-    (keeps_file name names file (bytes_of files file) fault_rows Go (λ n faults. Go n faults) (λ n faults keeps. keeps) is)
+    (keeps_file name names file (bytes_of files file) faults_by Go (λ n faults. Go n faults) (λ n faults keeps. keeps) is)
 
 pub keeps_faults : (name : Name) (files : Files) (names : List Name) (from : Option Name) → Contains names name
     → Contains (names_read (load_faults files names from)) name
@@ -428,14 +429,14 @@ keeps_faults name files names (Some file) is = reads_faults name files names fil
 -- the answers to a file of faults
 module _ (files : Files) (names : List Name) (file : Name) (before now : List Name) where
   faults_answer : (result : Result Faults Refusal)
-      → AnswersRows (λ (faults : Faults). faults.list) file fault_rows (bytes_of files file) result
+      → AnswersRows (λ (faults : Faults). faults.list) file faults_by (bytes_of files file) result
       → ReadsAmong (file ∷ []) before now result
       → AnswersFaults names (file ∷ []) (load_faults files names (Some file)) result
-  faults_answer (Ok faults) is among = ok_file names file (bytes_of files file) fault_rows Go faults.list is
+  faults_answer (Ok faults) is among = ok_file names file (bytes_of files file) faults_by Go faults.list is
   faults_answer (Err refused.Usage) is among = is
   faults_answer (Err (refused.BadProgram line)) is among = is
   faults_answer (Err (refused.BadInput line)) is among =
-      (names ++ file ∷ [], bad_file names file line (bytes_of files file) fault_rows Go is)
+      (names ++ file ∷ [], bad_file names file line (bytes_of files file) faults_by Go is)
   faults_answer (Err (refused.ReadFault told)) is among =
       reads_faults told files names file (Contains-append_right names (file ∷ []) told among.0)
   faults_answer (Err refused.OutOfMemory) is among = tt
@@ -443,7 +444,7 @@ module _ (files : Files) (names : List Name) (file : Name) (before now : List Na
 -- the same where the files are told, of the file that is named
 pub faults_told : (told : Option Files) (from : Option Name) (file : Name) (before now : List Name) (result : Result Faults Refusal)
     → from ≡ Some file
-    → IfSome told (λ files. AnswersRows (λ (faults : Faults). faults.list) file fault_rows (bytes_of files file) result)
+    → IfSome told (λ files. AnswersRows (λ (faults : Faults). faults.list) file faults_by (bytes_of files file) result)
     → ReadsAmong (file ∷ []) before now result
     → IfSome told (λ files. (names : List Name) → AnswersFaults names (named from) (load_faults files names from) result)
 faults_told None from file before now result is told among = tt

@@ -1,7 +1,7 @@
 -- A refusal of a program told by its line. Each stage of a program's way to a request (lexing, parsing, the check, the
 -- inputs, the faults) has a lemma from what the stage answers to the case that the call has; where a line is written
 -- all go by decided_by_line. Another row of lemmas says that what was read until then is among what the case may read.
-use Rattle.std.proofs.Common.{◌≡◌, ◌<◌, ℕ, Bool, true, false, List, length, [], ◌∷◌, ◌++◌, arith, if◌then◌else◌, IfSome, IsSomeAnd, refl, sym, ap, subst, ◌∙◌}
+use Rattle.std.proofs.Common.{◌≡◌, ◌<◌, ℕ, Bool, true, false, List, length, [], ◌∷◌, arith, if◌then◌else◌, IfSome, IsSomeAnd, refl, sym, ap, subst, ◌∙◌}
 use Rattle.std.specs.declared.option.Option.{Option}
 use Rattle.std.specs.declared.option.Option.TheVariants.{None, Some}
 use Rattle.std.specs.declared.result.Result.TheVariants.{Ok, Err}

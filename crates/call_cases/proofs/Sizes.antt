@@ -8,8 +8,7 @@ use Rattle.task_ast.specs.declared.tree.Head.TheVariants.{LockHead, BarrierHead,
 use Rattle.task_ast.specs.meaning.Names.{natural, records_of, cells_in}
 use Rattle.task_ast.specs.Inputs.{fields_of}
 use Rattle.batch_files.specs.meaning.Rows.{Broken, Row, csv_rows, first_broken}
-use Rattle.batch_files.specs.meaning.Records.{cells_below, record_rule, indexed_value}
-use Rattle.call_cases.specs.meaning.InputFiles.{record_rows}
+use Rattle.batch_files.specs.meaning.Records.{cells_below, record_rule, records_by, indexed_value}
 use Rattle.call_cases.specs.inner.Loading.{Counts, Grows}
 
 below_length : (size n : ℕ) (rows : List Row) → length (cells_below size n rows) ≡ n
@@ -26,7 +25,7 @@ meant_length size rows None cells is =
 meant_length size rows (Some broken) cells is = cc is
 
 -- the cells of a record, where its file has any, are as many as its size
-pub record_length : (size : ℕ) (bytes : List ℕ) (cells : List ℤ) → record_rows size bytes ≡ Ok cells → length cells ≡ size
+pub record_length : (size : ℕ) (bytes : List ℕ) (cells : List ℤ) → records_by size (csv_rows bytes) ≡ Ok cells → length cells ≡ size
 record_length size bytes cells is = meant_length size (csv_rows bytes) (first_broken (record_rule size) [] (csv_rows bytes)) cells is
 
 -- one head more

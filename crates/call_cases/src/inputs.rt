@@ -4,8 +4,11 @@ ghost use Rattle.gp_base.specs.declared.limits.TheConstants.{MOST_FEED_CELLS, MO
 ghost use Rattle.gp_base.specs.meaning.Files.{bytes_of};
 ghost use Rattle.task_ast.specs.meaning.Tree.{Name};
 ghost use Rattle.task_ast.specs.Inputs.{fields_in};
+ghost use Rattle.batch_files.specs.meaning.Records.{records_by};
+ghost use Rattle.batch_files.specs.meaning.Feeds.{feed_by};
+ghost use Rattle.batch_files.specs.meaning.Faults.{faults_by};
 ghost use Rattle.call_cases.specs.meaning.Lines.{input_line, kind_number};
-ghost use Rattle.call_cases.specs.meaning.InputFiles.{no_inputs, room_after, by_file, by_record, record_rows, feed_rows, fault_rows, more_cells, more_feed, load_head, load_faults, load};
+ghost use Rattle.call_cases.specs.meaning.InputFiles.{no_inputs, room_after, by_file, by_record, more_cells, more_feed, load_head, load_faults, load};
 ghost use Rattle.call_cases.specs.InputFiles.{named, names_in, file_names};
 ghost use Rattle.call_cases.specs.Refusals.{IsInputRefused, IsUnread, ReadsAmong, AnswersFile};
 ghost use Rattle.call_cases.specs.inner.Loading.{RefusesFile, AnswersRows, IsReadable, AreReadable, seen, StepsTo, AnswersLoad, AnswersFaults, Grows, Counts};
@@ -87,7 +90,7 @@ fn record_cells<H: Shelf>(
     ensures kept { H.files shelf.new ≡ H.files shelf.old }
     ensures failed { ReadsAmong (name.now ∷ []) (H.failed shelf.old) (H.failed shelf.new) result }
     ensures told { IfSome (H.files shelf.old) (λ files.
-        AnswersRows (λ cells. cells) name.now (record_rows size) (bytes_of files name.now) result) }
+        AnswersRows (λ cells. cells) name.now (records_by size) (bytes_of files name.now) result) }
     ensures size { IfOk result (λ cells. length cells ≡ size) }
 {
     let text = read_file(alloc, shelf, name)?;
@@ -110,7 +113,7 @@ fn feed_of<H: Shelf>(
     ensures kept { H.files shelf.new ≡ H.files shelf.old }
     ensures failed { ReadsAmong (name.now ∷ []) (H.failed shelf.old) (H.failed shelf.new) result }
     ensures told { IfSome (H.files shelf.old) (λ files.
-        AnswersRows (λ feed. feed.cells) name.now (feed_rows fields room) (bytes_of files name.now) result) }
+        AnswersRows (λ feed. feed.cells) name.now (feed_by fields room) (bytes_of files name.now) result) }
     ensures fields { IfOk result (λ feed. feed.fields ≡ fields) }
 {
     let text = read_file(alloc, shelf, name)?;
@@ -173,7 +176,7 @@ fn load_cells<H: Shelf>(
     ensures kept { H.files shelf.new ≡ H.files shelf.old }
     ensures failed { ReadsAmong (file.now ∷ []) (H.failed shelf.old) (H.failed shelf.new) result }
     ensures told { IfSome (H.files shelf.old) (λ files. (names : List Name) →
-        StepsTo names (file.now ∷ []) (by_file names file.now (bytes_of files file.now) (record_rows size) (more_cells (seen loading.old))) (seen loading.new) result) }
+        StepsTo names (file.now ∷ []) (by_file names file.now (bytes_of files file.now) (records_by size) (more_cells (seen loading.old))) (seen loading.new) result) }
     ensures records { OnOk result (length loading.new.records.items ≡ length loading.old.records.items + size) }
     ensures feeds { loading.new.feeds.items ≡ loading.old.feeds.items }
     ensures room { loading.new.room ≡ loading.old.room }
@@ -224,7 +227,7 @@ fn load_feed<H: Shelf>(
     ensures kept { H.files shelf.new ≡ H.files shelf.old }
     ensures failed { ReadsAmong (file.now ∷ []) (H.failed shelf.old) (H.failed shelf.new) result }
     ensures told { IfSome (H.files shelf.old) (λ files. (names : List Name) →
-        StepsTo names (file.now ∷ []) (by_file names file.now (bytes_of files file.now) (feed_rows fields (room_after loading.old.feeds.items)) (more_feed (seen loading.old) fields)) (seen loading.new) result) }
+        StepsTo names (file.now ∷ []) (by_file names file.now (bytes_of files file.now) (feed_by fields (room_after loading.old.feeds.items)) (more_feed (seen loading.old) fields)) (seen loading.new) result) }
     ensures room { OnOk result (loading.new.room ≡ room_after loading.new.feeds.items) }
     ensures records { loading.new.records.items ≡ loading.old.records.items }
     ensures feeds { OnOk result (map fields_in loading.new.feeds.items ≡ map fields_in loading.old.feeds.items ++ fields ∷ []) }
@@ -299,7 +302,7 @@ fn faults_of<H: Shelf>(alloc: Global, shelf: &mut H, name: &Name) -> Result<Faul
     ensures kept { H.files shelf.new ≡ H.files shelf.old }
     ensures failed { ReadsAmong (name.now ∷ []) (H.failed shelf.old) (H.failed shelf.new) result }
     ensures told { IfSome (H.files shelf.old) (λ files.
-        AnswersRows (λ faults. faults.list) name.now fault_rows (bytes_of files name.now) result) }
+        AnswersRows (λ faults. faults.list) name.now faults_by (bytes_of files name.now) result) }
 {
     let text = read_file(alloc, shelf, name)?;
     match read_faults(alloc, &text) {

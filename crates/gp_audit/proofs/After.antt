@@ -23,7 +23,7 @@ use Rattle.gp_audit.specs.declared.state.Seen.{Seen}
 use Rattle.gp_audit.specs.declared.line.TraceLine.{TraceLine}
 use Rattle.gp_audit.specs.declared.line.TraceLine.TheVariants as line
 use Rattle.gp_audit.specs.Steps.{dependence_by}
-use Rattle.gp_audit.specs.meaning.Verdicts.{event_of}
+use Rattle.gp_audit.specs.ToldLines.{event_of}
 use Rattle.gp_audit.specs.inner.Audited.{Audited, seen_at, first_seen, posted_seen, taken_seen, raised_seen, changed_at, all_raised, left_waiting, where_applied, waits_again, after_line, IsSeen, Shows}
 use Rattle.gp_audit.proofs.Shown.{seen-is}
 use Rattle.gp_audit.proofs.StepOrder.{steps-redo}

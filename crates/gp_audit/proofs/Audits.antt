@@ -26,7 +26,7 @@ use Rattle.gp_audit.specs.declared.line.TraceLine.{TraceLine}
 use Rattle.gp_audit.specs.declared.line.TraceLine.TheVariants as line
 use Rattle.gp_audit.specs.declared.state.Seen.{Seen}
 use Rattle.gp_audit.specs.Steps.{feet_in, dependence_by}
-use Rattle.gp_audit.specs.meaning.Verdicts.{events_of, LawfulLines}
+use Rattle.gp_audit.specs.ToldLines.{events_of, TellLawful}
 use Rattle.gp_audit.specs.inner.Audited.{Audited, nothing_seen, seen_at, first_seen, strikes_one, strikes, least_of, drains_now, struck_in, takes, IsRestart, Takes, after_line, is_whole, IsNoteworthy, Shows}
 use Rattle.gp_audit.specs.inner.Told.{Told}
 use Rattle.gp_audit.proofs.After.{line-shows}
@@ -101,7 +101,7 @@ told-start steps faults =
     none : (p : ℕ) (s : Seen) → slice_get [] p ≡ Some s → ⊥
     none p s e = let l = slice_get_within [] p s e in omega arith
 
-keep : (a : Audited) (l : TraceLine) (lines : List TraceLine) → LawfulLines (dependence_by a.steps) a.faults lines
+keep : (a : Audited) (l : TraceLine) (lines : List TraceLine) → TellLawful (dependence_by a.steps) a.faults lines
     → Shows (stage (dependence_by a.steps) a.faults (events_of lines)) (after_line a l) → Told (after_line a l) lines
 keep a (line.Issue p) lines lawful shows = record { lawful = lawful; shows = shows }
 keep a (line.Post p attempt) lines lawful shows = record { lawful = lawful; shows = shows }
@@ -168,7 +168,7 @@ module _ (a : Audited) (lines : List TraceLine) (told : Told a lines) (short : A
       (subst (λ stage. Shows stage (after_line a l)) (sym (stage-push dependence a.faults (steps-clean a.steps a.faults short) lines l))
       (line-shows at a told.shows stands names l _ allowed))
 
-  pub told-stops : (l : TraceLine) → ¬ Takes a l → ¬ LawfulLines dependence a.faults (lines ++ l ∷ [])
+  pub told-stops : (l : TraceLine) → ¬ Takes a l → ¬ TellLawful dependence a.faults (lines ++ l ∷ [])
   told-stops l none all =
       none ((takes-is at a told.shows stands l).1
       (push-lawful dependence a.faults (steps-clean a.steps a.faults short) lines l told.lawful all))

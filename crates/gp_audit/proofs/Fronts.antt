@@ -10,7 +10,9 @@ use Rattle.gp_audit.specs.declared.line.TraceLine.{TraceLine}
 use Rattle.gp_audit.specs.declared.line.TraceLine.TheVariants as line
 use Rattle.gp_audit.specs.declared.verdict.Verdict.{Verdict}
 use Rattle.gp_audit.specs.declared.verdict.Verdict.TheVariants.{Lawful as IsLawful, Unlawful, Incomplete}
-use Rattle.gp_audit.specs.meaning.Verdicts.{event_of, made_after, events_from, events_of, restarts_told, LawfulLines, IsFirstUnlawful, IsVerdict}
+use Rattle.gp_audit.specs.meaning.Verdicts.{IsVerdict}
+use Rattle.gp_audit.specs.ToldLines.{event_of, made_after, events_from, events_of, restarts_told, TellLawful, IsFirstUnlawful, IsToldVerdict}
+use Rattle.gp_audit.proofs.ToldVerdicts.{verdict-told}
 
 told-append : (xs ys : List TraceLine) → restarts_told (xs ++ ys) ≡ restarts_told xs ++ restarts_told ys
 told-append [] ys = refl
@@ -36,7 +38,7 @@ front_of (x ∷ xs) xs' (y ∷ ys) ys' e l =
     (h.0, λ i. sym heads i ∷ rest i)
 
 module _ (dependence : Dependence) (faults : List Fault) where
-  lawful-front : (xs ys : List TraceLine) → LawfulLines dependence faults (xs ++ ys) → LawfulLines dependence faults xs
+  lawful-front : (xs ys : List TraceLine) → TellLawful dependence faults (xs ++ ys) → TellLawful dependence faults xs
   lawful-front xs ys lawful =
       let events = events-append 0 xs ys in
       record {
@@ -50,10 +52,10 @@ module _ (dependence : Dependence) (faults : List Fault) where
         );
       }
 
-  never : (lines : List TraceLine) (n : ℕ) → LawfulLines dependence faults lines → IsFirstUnlawful dependence faults lines n → ⊥
+  never : (lines : List TraceLine) (n : ℕ) → TellLawful dependence faults lines → IsFirstUnlawful dependence faults lines n → ⊥
   never lines n lawful first =
       first.unlawful (lawful-front (first.before ++ first.line ∷ []) first.later
-      (subst (LawfulLines dependence faults) (first.lines_are ∙ sym (append_assoc first.before (first.line ∷ []) first.later)) lawful))
+      (subst (TellLawful dependence faults) (first.lines_are ∙ sym (append_assoc first.before (first.line ∷ []) first.later)) lawful))
 
   not_before : (lines : List TraceLine) (n m : ℕ) → IsFirstUnlawful dependence faults lines n → IsFirstUnlawful dependence faults lines m
       → n < m → ⊥
@@ -63,20 +65,25 @@ module _ (dependence : Dependence) (faults : List Fault) where
       let long = length-append a.before (a.line ∷ []) in
       let within = front_of (a.before ++ a.line ∷ []) a.later b.before (b.line ∷ b.later)
       (append_assoc a.before (a.line ∷ []) a.later ∙ (sym a.lines_are ∙ b.lines_are)) (omega arith) in
-      a.unlawful (lawful-front (a.before ++ a.line ∷ []) within.0 (subst (LawfulLines dependence faults) within.1 b.lawful))
+      a.unlawful (lawful-front (a.before ++ a.line ∷ []) within.0 (subst (TellLawful dependence faults) within.1 b.lawful))
 
-  pub verdict_once : (lines : List TraceLine) (v w : Verdict) → IsVerdict dependence faults lines v → IsVerdict dependence faults lines w
+  told_once : (lines : List TraceLine) (v w : Verdict) → IsToldVerdict dependence faults lines v → IsToldVerdict dependence faults lines w
       → v ≡ w
-  verdict_once lines IsLawful IsLawful a b = refl
-  verdict_once lines IsLawful (Unlawful n) a b = absurd (never lines n a.0 b)
-  verdict_once lines IsLawful Incomplete a b = absurd (b.1 a.1)
-  verdict_once lines (Unlawful n) IsLawful a b = absurd (never lines n b.0 a)
-  verdict_once lines (Unlawful n) Incomplete a b = absurd (never lines n b.0 a)
-  verdict_once lines (Unlawful n) (Unlawful m) a b =
+  told_once lines IsLawful IsLawful a b = refl
+  told_once lines IsLawful (Unlawful n) a b = absurd (never lines n a.0 b)
+  told_once lines IsLawful Incomplete a b = absurd (b.1 a.1)
+  told_once lines (Unlawful n) IsLawful a b = absurd (never lines n b.0 a)
+  told_once lines (Unlawful n) Incomplete a b = absurd (never lines n b.0 a)
+  told_once lines (Unlawful n) (Unlawful m) a b =
       elim (cases_lt n m) [
         | inl l ↦ absurd (not_before lines n m a b l)
         | inr h ↦ elim (cases_eq n m) [ inl same ↦ ap Unlawful same | inr other ↦ absurd (not_before lines m n b a (omega arith)) ]
       ]
-  verdict_once lines Incomplete IsLawful a b = absurd (a.1 b.1)
-  verdict_once lines Incomplete (Unlawful n) a b = absurd (never lines n a.0 b)
-  verdict_once lines Incomplete Incomplete a b = refl
+  told_once lines Incomplete IsLawful a b = absurd (a.1 b.1)
+  told_once lines Incomplete (Unlawful n) a b = absurd (never lines n a.0 b)
+  told_once lines Incomplete Incomplete a b = refl
+
+  pub verdict_once : (lines : List TraceLine) (v w : Verdict) → IsVerdict dependence faults lines v → IsVerdict dependence faults lines w
+      → v ≡ w
+  verdict_once lines v w a b =
+      told_once lines v w (verdict-told dependence faults lines v a) (verdict-told dependence faults lines w b)

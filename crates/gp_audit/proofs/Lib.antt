@@ -17,5 +17,7 @@ pub mod Shown
 pub mod Sifted
 pub mod StepOrder
 pub mod ToldEvents
+pub mod ToldVerdicts
+pub mod TraceTexts
 pub mod Traces
 mod VerdictRows

@@ -10,11 +10,13 @@ use Rattle.gp_audit.specs.declared.line.TraceLine.TheVariants as line
 use Rattle.gp_audit.specs.declared.line.TraceFault.{TraceFault}
 use Rattle.gp_audit.specs.declared.line.TraceFault.TheVariants as fault
 use Rattle.gp_audit.specs.Reading.{AnswersTrace}
-use Rattle.gp_audit.specs.meaning.Lines.{line_text, lines_text, before_space, at_end, attempt_before, applies_word, redo_end, restart_end, IsNarrow, IsNarrowRestart, IsNarrowLine}
+use Rattle.gp_audit.specs.LineTexts.{line_text, lines_text, before_space, at_end, attempt_before, applies_word, redo_end, restart_end, IsNarrow, IsNarrowRestart, IsNarrowLine, BreaksAt}
+use Rattle.gp_audit.specs.meaning.Lines.{IsTrace}
 use Rattle.gp_audit.proofs.Digits.{number_once}
 use Rattle.gp_audit.proofs.FirstWords.{only_issue, only_post, only_take, only_retire, only_restart}
 use Rattle.gp_audit.proofs.Parts.{cancel, before_once, attempt_once, space, line_end}
 use Rattle.gp_audit.proofs.Restarts.{parts, rest_apart, first_apart}
+use Rattle.gp_audit.proofs.TraceTexts.{trace-read, broken-read}
 
 redo_once : (xs ys r s : List ℕ) → All IsNarrow xs → All IsNarrow ys → redo_end xs ++ r ≡ redo_end ys ++ s → (xs ≡ ys) × (r ≡ s)
 redo_once [] [] r s nx ny same = (refl, cancel (codes "\n") r s same)
@@ -130,21 +132,33 @@ no_text (line.Restart r ∷ zs) e = absurd (let n = ap length e in omega arith)
 no_text (line.Retire p ∷ zs) e = absurd (let n = ap length e in omega arith)
 
 -- the text of lines is read as these lines
-pub read_once : (lines : List TraceLine) → All IsNarrowLine lines → (result : Result (List TraceLine) TraceFault)
+text_once : (lines : List TraceLine) → All IsNarrowLine lines → (result : Result (List TraceLine) TraceFault)
     → AnswersTrace (lines_text lines) result
     → (result ≡ Ok lines) ⊎ (result ≡ Err fault.OutOfMemory)
-read_once lines narrow (Ok read) h =
-    let once = lines_once lines read [] narrow h.0 (h.1 ∙ sym (append-nil (lines_text read))) in
+text_once lines narrow (Ok read) h =
+    let text = trace-read (lines_text lines) read h in
+    let once = lines_once lines read [] narrow text.0 (text.1 ∙ sym (append-nil (lines_text read))) in
     inl (ap Ok (sym (append-nil read) ∙ (ap (λ zs. read ++ zs) (sym (no_text once.0 once.2)) ∙ sym once.1)))
-read_once lines narrow (Err fault.OutOfMemory) h = inr refl
-read_once lines narrow (Err (fault.Line row)) h = absurd (broken once.0 once.1 once.2)
+text_once lines narrow (Err fault.OutOfMemory) h = inr refl
+text_once lines narrow (Err (fault.Line row)) h = absurd (broken once.0 once.1 once.2)
   where
-    once : (zs : List TraceLine) × (lines ≡ h.lines ++ zs) × (h.rest ≡ lines_text zs)
-    once = lines_once lines h.lines h.rest narrow h.narrow h.bytes_are
+    breaks : BreaksAt (lines_text lines) row
+    breaks = broken-read (lines_text lines) row h
 
-    broken : (zs : List TraceLine) → lines ≡ h.lines ++ zs → h.rest ≡ lines_text zs → ⊥
-    broken [] are text = h.some_row text
+    once : (zs : List TraceLine) × (lines ≡ breaks.lines ++ zs) × (breaks.rest ≡ lines_text zs)
+    once = lines_once lines breaks.lines breaks.rest narrow breaks.narrow breaks.bytes_are
+
+    broken : (zs : List TraceLine) → lines ≡ breaks.lines ++ zs → breaks.rest ≡ lines_text zs → ⊥
+    broken [] are text = breaks.some_row text
     broken (z ∷ zs) are text =
-        h.no_line z (lines_text zs)
+        breaks.no_line z (lines_text zs)
         (All-contains IsNarrowLine lines z narrow
-        (subst (λ xs. Contains xs z) (sym are) (Contains-append_right h.lines (z ∷ zs) z (0, omega arith, refl)))) text
+        (subst (λ xs. Contains xs z) (sym are) (Contains-append_right breaks.lines (z ∷ zs) z (0, omega arith, refl)))) text
+
+-- so a trace is
+pub read_once : (bytes : List ℕ) (lines : List TraceLine) → IsTrace bytes lines → (result : Result (List TraceLine) TraceFault)
+    → AnswersTrace bytes result
+    → (result ≡ Ok lines) ⊎ (result ≡ Err fault.OutOfMemory)
+read_once bytes lines trace result answers =
+    let text = trace-read bytes lines trace in
+    text_once lines text.0 result (subst (λ b. AnswersTrace b result) text.1 answers)

@@ -3,7 +3,7 @@ use Rattle.std.proofs.Common.{◌≡◌, ◌≢◌, ℕ, false, List, [], ◌∷
 use Rattle.std.specs.Prelude.{codes, decimal, flat_map}
 use Rattle.gp_base.specs.declared.journal.Restart.{Restart}
 use Rattle.gp_base.specs.Fronts.{begins_with_digit}
-use Rattle.gp_audit.specs.meaning.Lines.{IsNarrow, IsNarrowRestart, before_space, attempt_before, redo_end, restart_end}
+use Rattle.gp_audit.specs.LineTexts.{IsNarrow, IsNarrowRestart, before_space, attempt_before, redo_end, restart_end}
 use Rattle.gp_audit.specs.inner.Numbers.{ReadsRedo}
 use Rattle.gp_audit.proofs.Digits.{number_once}
 use Rattle.gp_audit.proofs.Parts.{cancel, before_once, attempt_once, space}

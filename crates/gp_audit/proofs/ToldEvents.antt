@@ -14,7 +14,7 @@ use Rattle.dependence.proofs.Counts.{counted}
 use Rattle.dependence.proofs.Journals.{LawfulFrom-push, stage_from-push, restarts-first}
 use Rattle.gp_audit.specs.declared.line.TraceLine.{TraceLine}
 use Rattle.gp_audit.specs.declared.line.TraceLine.TheVariants as line
-use Rattle.gp_audit.specs.meaning.Verdicts.{event_of, made_after, events_from, events_of, restarts_told, LawfulLines}
+use Rattle.gp_audit.specs.ToldLines.{event_of, made_after, events_from, events_of, restarts_told, TellLawful}
 
 -- the restarts that a line tells
 abbrev told_by : TraceLine → List Restart
@@ -104,7 +104,7 @@ module _ (dependence : Dependence) (faults : List Fault) (clean : KeepsClean dep
   made-length lines lawful =
       (let c = (counted dependence faults initial_stage (events_of lines) lawful).made_is in let t = counts-told 0 lines in omega arith)
 
-  pub made-told : (lines : List TraceLine) → LawfulLines dependence faults lines → (at_of lines).progress.made ≡ restarts_told lines
+  pub made-told : (lines : List TraceLine) → TellLawful dependence faults lines → (at_of lines).progress.made ≡ restarts_told lines
   made-told lines lawful =
       let first = restarts-first dependence faults clean (events_of lines) lawful.lawful in
       (same_front (restarts dependence faults) (at_of lines).progress.made
@@ -120,7 +120,7 @@ module _ (dependence : Dependence) (faults : List Fault) (clean : KeepsClean dep
       ap (stage dependence faults) (events-push 0 lines l)
       ∙ stage_from-push dependence faults initial_stage (events_of lines) (next_event lines l)
 
-  event-allowed : (lines : List TraceLine) → LawfulLines dependence faults lines → (l : TraceLine)
+  event-allowed : (lines : List TraceLine) → TellLawful dependence faults lines → (l : TraceLine)
       → LineAllowed dependence faults (at_of lines) l → Allowed dependence faults (at_of lines) (next_event lines l)
   event-allowed lines lawful (line.Issue p) may = may
   event-allowed lines lawful (line.Post p a) may = may
@@ -143,8 +143,8 @@ module _ (dependence : Dependence) (faults : List Fault) (clean : KeepsClean dep
       ap (λ o. (restarted dependence (at_of lines) o).progress.made) may.1 ∙ ap (λ x. (at_of lines).progress.made ++ x ∷ []) (sym may.2)
 
   -- lines go on lawfully by a line that may come next
-  pub lawful-push : (lines : List TraceLine) (l : TraceLine) → LawfulLines dependence faults lines
-      → LineAllowed dependence faults (at_of lines) l → LawfulLines dependence faults (lines ++ l ∷ [])
+  pub lawful-push : (lines : List TraceLine) (l : TraceLine) → TellLawful dependence faults lines
+      → LineAllowed dependence faults (at_of lines) l → TellLawful dependence faults (lines ++ l ∷ [])
   lawful-push lines l lawful may =
       let events =
       LawfulFrom-push dependence faults initial_stage (events_of lines) (next_event lines l) lawful.lawful
@@ -163,8 +163,8 @@ module _ (dependence : Dependence) (faults : List Fault) (clean : KeepsClean dep
   last-allowed at (x ∷ events) e lawful = last-allowed (happens dependence faults at x) events e lawful.1
 
   -- and only so
-  pub push-lawful : (lines : List TraceLine) (l : TraceLine) → LawfulLines dependence faults lines
-      → LawfulLines dependence faults (lines ++ l ∷ []) → LineAllowed dependence faults (at_of lines) l
+  pub push-lawful : (lines : List TraceLine) (l : TraceLine) → TellLawful dependence faults lines
+      → TellLawful dependence faults (lines ++ l ∷ []) → LineAllowed dependence faults (at_of lines) l
   push-lawful lines l lawful all = go l refl
     where
       last : Allowed dependence faults (at_of lines) (next_event lines l)

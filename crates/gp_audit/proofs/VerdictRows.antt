@@ -9,7 +9,7 @@ use Rattle.gp_audit.specs.declared.line.TraceLine.{TraceLine}
 use Rattle.gp_audit.specs.declared.line.TraceLine.TheVariants.{Issue, Post, Take, Retire}
 use Rattle.gp_audit.specs.declared.verdict.Verdict.TheVariants.{Lawful as IsLawful, Unlawful, Incomplete}
 use Rattle.gp_audit.specs.Steps.{dependence_by}
-use Rattle.gp_audit.specs.meaning.Verdicts.{IsVerdict, events_of}
+use Rattle.gp_audit.specs.ToldLines.{events_of, IsToldVerdict}
 
 -- it reads, writes and prints nothing
 one_step : List Step
@@ -28,7 +28,7 @@ dependence = dependence_by one_step
 abbrev run : List TraceLine
 run = Issue 0 ∷ Post 0 0 ∷ Take 0 0 true ∷ Retire 0 ∷ []
 
-whole : IsVerdict dependence [] run IsLawful
+whole : IsToldVerdict dependence [] run IsLawful
 unfolding one_step
 whole = (
   record { lawful = (lawful-decides dependence [] (events_of run)).0 refl; first = ([], refl) },
@@ -38,7 +38,7 @@ whole = (
 abbrev early : List TraceLine
 early = Issue 0 ∷ Post 0 0 ∷ Retire 0 ∷ []
 
-early_retirement : IsVerdict dependence [] early (Unlawful 3)
+early_retirement : IsToldVerdict dependence [] early (Unlawful 3)
 unfolding one_step
 early_retirement =
     record {
@@ -54,13 +54,13 @@ early_retirement =
 abbrev three : List TraceLine
 three = Issue 0 ∷ Post 0 0 ∷ Take 0 0 true ∷ []
 
-first_three : IsVerdict dependence [] three Incomplete
+first_three : IsToldVerdict dependence [] three Incomplete
 unfolding one_step
 first_three = (
   record { lawful = (lawful-decides dependence [] (events_of three)).0 refl; first = ([], refl) },
   not_from_Decides _ (complete-decides dependence [] (events_of three)) refl,
 )
 
-no_line : IsVerdict dependence [] [] Incomplete
+no_line : IsToldVerdict dependence [] [] Incomplete
 unfolding one_step
 no_line = (record { lawful = tt; first = ([], refl) }, not_from_Decides _ (complete-decides dependence [] []) refl)

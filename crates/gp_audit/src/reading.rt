@@ -1,7 +1,7 @@
 // Reads the bytes of a trace.
 ghost use Rattle.std.specs.Prelude.{◌≤◌, ◌++◌, codes, length, IfOk, option_map};
 ghost use Rattle.gp_base.specs.declared.limits.TheConstants.{MOST_FILE_BYTES};
-ghost use Rattle.gp_audit.specs.meaning.Lines.{line_text, before_space, attempt_before, restart_end, IsNarrow, IsNarrowLine, IsNarrowRestart};
+ghost use Rattle.gp_audit.specs.LineTexts.{line_text, before_space, attempt_before, restart_end, IsNarrow, IsNarrowLine, IsNarrowRestart};
 ghost use Rattle.gp_audit.specs.Reading.{IsRead, AnswersTrace};
 
 use crate::line::{TraceFault, TraceLine};

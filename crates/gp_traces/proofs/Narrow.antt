@@ -17,9 +17,9 @@ use Rattle.dependence.proofs.Journals.{LawfulFrom-front}
 use Rattle.dependence.proofs.Standing.{initial-stands, stands-from}
 use Rattle.dependence.proofs.Struck.{struck-live}
 use Rattle.gp_audit.specs.declared.line.TraceLine.TheVariants as line
-use Rattle.gp_audit.specs.meaning.Lines.{IsNarrowRestart, IsNarrowLine}
+use Rattle.gp_audit.specs.LineTexts.{IsNarrowRestart, IsNarrowLine}
 use Rattle.gp_traces.specs.Laws.{IsNarrowFault}
-use Rattle.gp_traces.specs.Told.{restart_line, line_of}
+use Rattle.gp_traces.specs.Told.{restart_line, event_lines}
 
 allowed-at : (dependence : Dependence) (faults : List Fault) (at : Stage) (done : List Event) (e : Event) (more : List Event)
     → LawfulFrom dependence faults at (done ++ e ∷ more) → Allowed dependence faults (stage_from dependence faults at done) e
@@ -90,7 +90,7 @@ module _ (dependence : Dependence) (faults : List Fault) (clean : KeepsClean dep
       one-line None narrow = All-nil IsNarrowLine
       one-line (Some r) narrow = All-cons IsNarrowLine (line.Restart r) [] (narrow r refl) (All-nil IsNarrowLine)
 
-      event-narrow : (e : Event) → Allowed dependence faults at e → All IsNarrowLine (line_of told e)
+      event-narrow : (e : Event) → Allowed dependence faults at e → All IsNarrowLine (event_lines told e)
       event-narrow (event.Issue p) may = All-cons IsNarrowLine (line.Issue p) [] (let left = may.left in omega arith) (All-nil IsNarrowLine)
       event-narrow (event.Post p a) may =
           let low = stands.front_low in let issued = may.issued in let few_attempts = attempts p in let present = may.present in
@@ -107,10 +107,10 @@ module _ (dependence : Dependence) (faults : List Fault) (clean : KeepsClean dep
           (let low = stands.front_low in let issued = may.issued in omega arith) (All-nil IsNarrowLine)
 
     -- the lines of events that go on lawfully
-    pub lines-narrow : (done more : List Event) → Lawful dependence faults (done ++ more) → All IsNarrowLine (flat_map (line_of told) more)
+    pub lines-narrow : (done more : List Event) → Lawful dependence faults (done ++ more) → All IsNarrowLine (flat_map (event_lines told) more)
     lines-narrow done [] lawful = All-nil IsNarrowLine
     lines-narrow done (e ∷ more) lawful =
-        All-append IsNarrowLine (line_of told e) (flat_map (line_of told) more)
+        All-append IsNarrowLine (event_lines told e) (flat_map (event_lines told) more)
         (event-narrow done (LawfulFrom-front dependence faults initial_stage done (e ∷ more) lawful) e
         (allowed-at dependence faults initial_stage done e more lawful))
         (lines-narrow (done ++ e ∷ []) more (subst (Lawful dependence faults) (sym (append_assoc done (e ∷ []) more)) lawful))

@@ -11,8 +11,10 @@ use Rattle.gp_base.specs.declared.journal.Event.TheVariants as event
 use Rattle.dependence.specs.meaning.Restarts.{Dependence, struck_next, restart_of, restarts as all_restarts}
 use Rattle.dependence.specs.meaning.Journal.{Stage, initial_stage, Lawful, LawfulFrom, happens, restarted}
 use Rattle.dependence.specs.meaning.Counts.{is_restart}
-use Rattle.gp_audit.specs.meaning.Verdicts.{events_from, events_of, restarts_told, LawfulLines}
-use Rattle.gp_traces.specs.Told.{restart_line, line_of}
+use Rattle.gp_audit.specs.meaning.Verdicts.{LawfulLines}
+use Rattle.gp_audit.specs.ToldLines.{events_from, events_of, restarts_told}
+use Rattle.gp_audit.proofs.ToldVerdicts.{lawful-lines}
+use Rattle.gp_traces.specs.Told.{restart_line, event_lines}
 
 past-none : {A : Type 0} (xs : List A) (k : ℕ) → slice_get xs k ≡ None → length xs ≤ k
 past-none [] k e = omega arith
@@ -22,8 +24,8 @@ past-none (x ∷ xs) (suc k) e = let l = past-none xs k e in omega arith
 module _ (dependence : Dependence) (faults : List Fault) (restarts : List Restart) where
   -- what the lines of events tell from a number of restarts on
   record Tells (made : ℕ) (events : List Event) : Type 0 where
-    events_are : events_from made (flat_map (line_of restarts) events) ≡ events
-    told_are : restarts_told (flat_map (line_of restarts) events) ≡ drop made restarts
+    events_are : events_from made (flat_map (event_lines restarts) events) ≡ events
+    told_are : restarts_told (flat_map (event_lines restarts) events) ≡ drop made restarts
 
   one_more : (at : Stage) (o : Option ℕ) → o ≢ None → length (restarted dependence at o).progress.made ≡ length at.progress.made + 1
   one_more at None some = absurd (some refl)
@@ -64,7 +66,7 @@ module _ (dependence : Dependence) (faults : List Fault) (restarts : List Restar
           → Tells made (event.Restart k ∷ events)
       there k same None e rest long = absurd (let past = past-none restarts k e in omega arith)
       there k same (Some r) e rest long =
-          let later = flat_map (line_of restarts) events in
+          let later = flat_map (event_lines restarts) events in
           let here : get_or restarts made r ≡ r = subst (λ i. get_or restarts i r ≡ r) same (get_or_from_slice_get restarts k r r e) in
           let next : suc made ≡ made + 1 = omega arith in
           record {
@@ -78,12 +80,12 @@ module _ (dependence : Dependence) (faults : List Fault) (restarts : List Restar
 pub lines-lawful : (dependence : Dependence) (faults : List Fault) (restarts : List Restart) (events : List Event)
     → Lawful dependence faults events
     → (rest : List Restart) × (all_restarts dependence faults ≡ restarts ++ rest) → length restarts ≡ count_by is_restart events
-    → (events_of (flat_map (line_of restarts) events) ≡ events) × LawfulLines dependence faults (flat_map (line_of restarts) events)
+    → (events_of (flat_map (event_lines restarts) events) ≡ events) × LawfulLines dependence faults (flat_map (event_lines restarts) events)
 lines-lawful dependence faults restarts events lawful first n =
     let told = tells dependence faults restarts initial_stage 0 events refl lawful (omega arith) in (
       told.events_are,
-      record {
+      lawful-lines dependence faults (flat_map (event_lines restarts) events) (record {
         lawful = subst (Lawful dependence faults) (sym told.events_are) lawful;
         first = (first.0, first.1 ∙ ap (λ rs. rs ++ first.0) (sym told.told_are));
-      },
+      }),
     )

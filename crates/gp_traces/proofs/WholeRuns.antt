@@ -18,12 +18,14 @@ use Rattle.gp_audit.specs.declared.line.TraceFault.{TraceFault}
 use Rattle.gp_audit.specs.declared.line.TraceFault.TheVariants as fault
 use Rattle.gp_audit.specs.declared.verdict.Verdict.{Verdict}
 use Rattle.gp_audit.specs.declared.verdict.Verdict.TheVariants.{Lawful as IsLawful}
-use Rattle.gp_audit.specs.meaning.Lines.{IsNarrowRestart, IsNarrowLine}
+use Rattle.gp_audit.specs.LineTexts.{IsNarrowRestart, IsNarrowLine}
 use Rattle.gp_audit.specs.Reading.{AnswersTrace}
 use Rattle.gp_audit.specs.Steps.{dependence_by}
 use Rattle.gp_audit.specs.meaning.Verdicts.{IsVerdict}
 use Rattle.gp_audit.proofs.Fronts.{verdict_once}
 use Rattle.gp_audit.proofs.Once.{read_once}
+use Rattle.gp_audit.proofs.ToldVerdicts.{tell-lawful, told-verdict}
+use Rattle.gp_audit.proofs.TraceTexts.{trace-of}
 use Rattle.gp_traces.specs.Laws.{IsWholeRun, IsNarrowRun}
 use Rattle.gp_traces.specs.Told.{lines_of}
 use Rattle.gp_traces.proofs.Narrow.{restarts-narrow, lines-narrow}
@@ -59,15 +61,18 @@ module _ (run : List Subthread) (faults : List Fault) (journal : Journal) (narro
   whole-verdict =
       let lines = lines-lawful (dependence_of run) faults journal.restarts journal.events whole.complete.lawful whole.first whole.counted in
       subst (λ (dependence : Dependence). IsVerdict dependence faults (lines_of journal) IsLawful) (sym (order-is run))
-      (lines.1, subst (Complete (dependence_of run) faults) (sym lines.0) whole.complete)
+      (told-verdict (dependence_of run) faults (lines_of journal) IsLawful (
+        tell-lawful (dependence_of run) faults (lines_of journal) lines.1,
+        subst (Complete (dependence_of run) faults) (sym lines.0) whole.complete,
+      ))
 
   pub audit-is-lawful : (read : Result (List TraceLine) TraceFault) → AnswersTrace (trace_text journal) read
       → (read ≡ Err fault.OutOfMemory)
       ⊎ ((lines : List TraceLine) × (read ≡ Ok lines)
       × ((verdict : Verdict) → IsVerdict (dependence_by (map shown run)) faults lines verdict → verdict ≡ IsLawful))
   audit-is-lawful read answers =
-      elim (read_once (lines_of journal) all-lines-narrow read
-      (subst (λ bytes. AnswersTrace bytes read) (text-is journal.restarts journal.events) answers)) [
+      elim (read_once (trace_text journal) (lines_of journal)
+      (trace-of (trace_text journal) (lines_of journal) all-lines-narrow (text-is journal.restarts journal.events)) read answers) [
         | inl is ↦
             inr (
               lines_of journal,

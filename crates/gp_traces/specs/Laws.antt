@@ -16,10 +16,11 @@ use Rattle.gp_audit.specs.declared.line.TraceFault.{TraceFault}
 use Rattle.gp_audit.specs.declared.line.TraceFault.TheVariants as fault
 use Rattle.gp_audit.specs.declared.verdict.Verdict.{Verdict}
 use Rattle.gp_audit.specs.declared.verdict.Verdict.TheVariants.{Lawful as IsLawful}
-use Rattle.gp_audit.specs.meaning.Lines.{lines_text as text_of}
+use Rattle.gp_audit.specs.LineTexts.{lines_text as text_of}
 use Rattle.gp_audit.specs.Reading.{AnswersTrace}
 use Rattle.gp_audit.specs.Steps.{dependence_by}
-use Rattle.gp_audit.specs.meaning.Verdicts.{events_of, LawfulLines, IsVerdict}
+use Rattle.gp_audit.specs.meaning.Verdicts.{LawfulLines, IsVerdict}
+use Rattle.gp_audit.specs.ToldLines.{events_of}
 use Rattle.gp_traces.specs.Told.{lines_of}
 
 -- the trace of a journal is the text of its lines

@@ -1,5 +1,4 @@
-//! What an audit says of the trace that a run writes. The writer and the audit share no definition of the
-//! text; these laws join the two.
+//! What an audit says of the trace that a run writes: it is read as the lines of the run's journal, which are lawful.
 #![tactic(auto)]
 
 pub mod laws;

@@ -1,11 +1,11 @@
 -- The command `audit`, as one value of the record of promises.
-use Rattle.std.specs.Prelude.{◌≡◌, ◌⊎◌, ℕ, false, [], ⊤}
+use Rattle.std.specs.Prelude.{◌≡◌, ◌⊎◌, ℕ}
 use Rattle.task_ast.specs.meaning.Tree.{Name}
 use Rattle.gp_audit.specs.meaning.Answer.{verdict_text, verdict_status}
 use Rattle.command_line.specs.meaning.AuditWords.{audited_by}
 use Rattle.command_line.specs.declared.audit_words.Audited.{Audited}
 use Rattle.call_cases.specs.meaning.RunCommands.{MayRead as MayReadFor}
-use Rattle.call_cases.specs.meaning.Commands.{Asking, Commands, Unlogged}
+use Rattle.call_cases.specs.meaning.Commands.{Asking, Commands, unjournalled}
 use Rattle.audit_calls.specs.meaning.Tried.{Judge, Tried, supplied}
 
 -- A file that may be read for what the words ask: one of those of the run, or that of the trace.
@@ -24,18 +24,5 @@ asking judge =
 
 -- The promises: the status and the text tell the verdict. The error stream then took nothing, and no run over a journal begins.
 abbrev pub commands : Judge → Commands Audited Tried
-commands judge = record {
-  asking = asking judge;
-  may_read = MayRead;
-  makes_files = λ audited. false;
-  is_journalled = λ audited. false;
-  has_journal = λ tried. false;
-  status = λ tried. verdict_status tried.verdict;
-  text = λ tried. verdict_text tried.verdict;
-  whole = IsTold;
-  error = λ audited journal. [];
-  log = Unlogged;
-  lawful = λ tried journal. ⊤;
-  complete = λ tried journal. ⊤;
-  retired = λ tried journal out. ⊤;
-}
+commands judge =
+    unjournalled (asking judge) MayRead (λ tried. verdict_status tried.verdict) IsTold (λ tried. verdict_text tried.verdict)

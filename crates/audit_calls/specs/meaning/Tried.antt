@@ -1,12 +1,12 @@
 -- What an audit comes to by the files of a call: the run that is said to have been, the lines of its trace, and the verdict on them.
-use Rattle.std.specs.Prelude.{◌≡◌, ℕ, List, [], ◌∷◌, ◌++◌, All, Option, Result, Ok, Err}
+use Rattle.std.specs.Prelude.{ℕ, List, [], ◌∷◌, ◌++◌, Option, Result, Ok, Err}
 use Rattle.gp_base.specs.meaning.Files.{bytes_of}
 use Rattle.gp_base.specs.declared.fault.Fault.{Fault}
 use Rattle.task_ast.specs.meaning.Tree.{Name, Program}
 use Rattle.dependence.specs.meaning.Restarts.{Dependence}
 use Rattle.gp_audit.specs.declared.line.TraceLine.{TraceLine}
 use Rattle.gp_audit.specs.declared.verdict.Verdict.{Verdict}
-use Rattle.gp_audit.specs.meaning.Lines.{lines_text, IsNarrowLine}
+use Rattle.gp_audit.specs.meaning.Lines.{IsTrace}
 use Rattle.gp_audit.specs.meaning.Reading.{IsBrokenAt}
 use Rattle.gp_audit.specs.meaning.Verdicts.{IsVerdict}
 use Rattle.command_line.specs.declared.audit_words.Audited.{Audited}
@@ -17,7 +17,7 @@ use Rattle.call_cases.specs.meaning.Lines.{input_line}
 
 -- the bytes are those of a trace with these lines, or this row, counted from 1, is the first that is none
 abbrev pub Reads : (bytes : List ℕ) → Result (List TraceLine) ℕ → Type 0
-Reads bytes (Ok lines) = All IsNarrowLine lines × (bytes ≡ lines_text lines)
+Reads bytes (Ok lines) = IsTrace bytes lines
 Reads bytes (Err row) = IsBrokenAt bytes row
 
 -- Who reads traces, and judges their lines, by the definitions of both. No two differ.

@@ -11,7 +11,7 @@ use Rattle.task_ast.specs.meaning.Names.{natural, records_of, cells_in}
 use Rattle.task_ast.specs.Inputs.{fields_of, fields_in}
 use Rattle.batch_files.specs.declared.fault.FileFault.{FileFault}
 use Rattle.batch_files.specs.declared.fault.FileFault.TheVariants as file
-use Rattle.batch_files.specs.meaning.Rows.{Broken}
+use Rattle.batch_files.specs.meaning.Rows.{Row, Broken, csv_rows}
 use Rattle.call_cases.specs.declared.reading.Refusal.{Refusal}
 use Rattle.call_cases.specs.declared.reading.Refusal.TheVariants as refused
 use Rattle.call_cases.specs.declared.inputs.Loading.{Loading}
@@ -37,9 +37,9 @@ IsRefusedBy name line text (Err broken) =
     × (length text ≤ MOST_FILE_BYTES)
 
 -- what is answered, as it is seen, is what is meant by the bytes of the file, or its line
-abbrev pub AnswersRows : {A T : Type 0} → (A → T) → Name → (List ℕ → Result T Broken) → Option (List ℕ) → Result A Refusal → Type 0
-AnswersRows see name meant bytes (Ok value) = IsSomeAnd bytes (λ text. (length text ≤ MOST_FILE_BYTES) × (meant text ≡ Ok (see value)))
-AnswersRows see name meant bytes (Err (refused.BadInput line)) = IsSomeAnd bytes (λ text. IsRefusedBy name line text (meant text))
+abbrev pub AnswersRows : {A T : Type 0} → (A → T) → Name → (List Row → Result T Broken) → Option (List ℕ) → Result A Refusal → Type 0
+AnswersRows see name meant bytes (Ok value) = IsSomeAnd bytes (λ text. (length text ≤ MOST_FILE_BYTES) × (meant (csv_rows text) ≡ Ok (see value)))
+AnswersRows see name meant bytes (Err (refused.BadInput line)) = IsSomeAnd bytes (λ text. IsRefusedBy name line text (meant (csv_rows text)))
 AnswersRows see name meant bytes (Err (refused.ReadFault told)) = ⊤
 AnswersRows see name meant bytes (Err refused.OutOfMemory) = ⊤
 AnswersRows see name meant bytes (Err refusal) = ⊥

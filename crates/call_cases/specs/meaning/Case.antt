@@ -1,5 +1,5 @@
 -- The case of a call: what it comes to by its words and the files alone.
-use Rattle.std.specs.Prelude.{◌≡◌, ℕ, true, List, [], ◌∷◌, ◌++◌, ⊤}
+use Rattle.std.specs.Prelude.{◌≡◌, ℕ, true, List, [], ◌∷◌, IfSome, ⊤}
 use Rattle.std.specs.declared.option.Option.{Option}
 use Rattle.std.specs.declared.option.Option.TheVariants.{None, Some}
 use Rattle.gp_base.specs.meaning.Files.{bytes_of}
@@ -36,8 +36,7 @@ pub data IsCase {A T : Type 0} (asking : Asking A T) (words : List (List ℕ)) (
 
 -- a fact about the case of a call, where the files are told
 abbrev pub ForCase : {A T : Type 0} → Asking A T → List (List ℕ) → Option Files → (Case T → Type 0) → Type 0
-ForCase asking words None P = ⊤
-ForCase {T} asking words (Some files) P = (case : Case T) → IsCase asking words files case → P case
+ForCase {T} asking words files P = IfSome files (λ files. (case : Case T) → IsCase asking words files case → P case)
 
 -- what the error stream is to take: the line of a refusal, or this at the end of what is done
 abbrev pub due_of : {T : Type 0} → Case T → (error : List ℕ) → List ℕ

@@ -1,7 +1,7 @@
 -- The record of promises of a top call: what its words ask for, which is a value of A, what is to be done for that,
 -- which is a value of T, and how what the call leaves stands to it. Each top call is promised to do what one value of
 -- this record says.
-use Rattle.std.specs.Prelude.{ℕ, Bool, List, Option}
+use Rattle.std.specs.Prelude.{ℕ, Bool, false, List, [], Option, ⊤}
 use Rattle.gp_base.specs.declared.journal.Journal.{Journal}
 use Rattle.task_ast.specs.meaning.Tree.{Name, Program}
 use Rattle.call_cases.specs.meaning.Work.{Files, Case}
@@ -53,3 +53,23 @@ pub record Commands (A T : Type 0) : Type 1 where
   pub lawful : T → Journal → Type 0
   pub complete : T → Journal → Type 0
   pub retired : T → Journal → Change → Type 0
+
+-- the promises of a call that begins no run over a journal, and makes no files: these files may be read, and what is to be done has this
+-- status, one of these, and this text
+abbrev pub unjournalled : {A T : Type 0} → Asking A T → (may_read : A → Name → Type 0) → (status : T → ℕ) → (whole : ℕ → Type 0)
+    → (text : T → List ℕ) → Commands A T
+unjournalled asking may_read status whole text = record {
+  asking = asking;
+  may_read = may_read;
+  makes_files = λ asked. false;
+  is_journalled = λ asked. false;
+  has_journal = λ work. false;
+  status = status;
+  text = text;
+  whole = whole;
+  error = λ asked journal. [];
+  log = Unlogged;
+  lawful = λ work journal. ⊤;
+  complete = λ work journal. ⊤;
+  retired = λ work journal out. ⊤;
+}

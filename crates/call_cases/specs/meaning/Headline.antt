@@ -1,5 +1,5 @@
 -- What a call is promised to do: its answer, and what it wrote, by its case.
-use Rattle.std.specs.Prelude.{◌≡◌, ◌⊎◌, ℕ, true, false, [], List, Option, Some, None, Contains, IfSome, IsSomeAnd, ⊤}
+use Rattle.std.specs.Prelude.{◌≡◌, ◌⊎◌, ℕ, true, false, [], List, Option, Some, None, Contains, IfSome, IsSomeAnd}
 use Rattle.gp_base.specs.declared.journal.Journal.{Journal}
 use Rattle.gp_base.specs.meaning.Files.{GrowsByOnly}
 use Rattle.task_ast.specs.meaning.Tree.{Name}
@@ -57,13 +57,11 @@ module _ {A T : Type 0} (commands : Commands A T) where
 
   -- no run begins for what is asked: the words are those of no command, or of one that runs nothing over a journal
   abbrev pub RunsNothing : Option A → Type 0
-  RunsNothing None = ⊤
-  RunsNothing (Some asked) = commands.is_journalled asked ≡ false
+  RunsNothing asked = IfSome asked (λ asked. commands.is_journalled asked ≡ false)
 
   -- no file of the shelf is read for what is asked: the words are those of no command, or of one that makes its files itself
   abbrev pub ReadsNothing : Option A → Type 0
-  ReadsNothing None = ⊤
-  ReadsNothing (Some asked) = commands.makes_files asked ≡ true
+  ReadsNothing asked = IfSome asked (λ asked. commands.makes_files asked ≡ true)
 
 module _ {A T : Type 0} (commands : Commands A T) (call : Call) where
   -- what the error stream took where what is asked was done to its end: the text that is due then, or the whole log

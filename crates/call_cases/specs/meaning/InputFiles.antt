@@ -12,7 +12,7 @@ use Rattle.task_ast.specs.declared.tree.Head.{Head}
 use Rattle.task_ast.specs.declared.tree.Head.TheVariants.{RecHead, FeedHead}
 use Rattle.task_ast.specs.meaning.Tree.{Name, Program}
 use Rattle.task_ast.specs.meaning.Names.{natural}
-use Rattle.batch_files.specs.meaning.Rows.{Broken, csv_rows}
+use Rattle.batch_files.specs.meaning.Rows.{Row, Broken, csv_rows}
 use Rattle.batch_files.specs.meaning.Records.{records_by}
 use Rattle.batch_files.specs.meaning.Feeds.{feed_by}
 use Rattle.batch_files.specs.meaning.Faults.{faults_by}
@@ -68,39 +68,28 @@ abbrev pub by_rows : {S T : Type 0} → List Name → Name → Result S Broken �
 by_rows names file (Ok value) next = next (names ++ file ∷ []) value
 by_rows names file (Err broken) next = Refused 4 (names ++ file ∷ []) (input_line file (kind_number broken.0) broken.1)
 
--- the same of the file with these bytes
-abbrev pub by_file : {S T : Type 0} → List Name → Name → Option (List ℕ) → (List ℕ → Result S Broken) → (List Name → S → Case T)
+-- the same of the file with these bytes, by what its rows mean
+abbrev pub by_file : {S T : Type 0} → List Name → Name → Option (List ℕ) → (List Row → Result S Broken) → (List Name → S → Case T)
     → Case T
-by_file names file bytes meant next = by_content names file bytes (λ bytes. by_rows names file (meant bytes) next)
+by_file names file bytes meant next = by_content names file bytes (λ bytes. by_rows names file (meant (csv_rows bytes)) next)
 
--- the cells of a record of this size, by the bytes of its file, and the inputs with them
-abbrev pub record_rows : (size : ℕ) → List ℕ → Result (List ℤ) Broken
-record_rows size bytes = records_by size (csv_rows bytes)
-
+-- the inputs with the cells of one more record, and with one more feed
 abbrev pub more_cells : Inputs → List Name → List ℤ → Case Inputs
 more_cells inputs names cells = Go names (with_cells inputs cells)
-
--- the cells of a feed of so many fields, for which there is so much room, by the bytes of its file, and the inputs with it
-abbrev pub feed_rows : (fields room : ℕ) → List ℕ → Result (List ℤ) Broken
-feed_rows fields room bytes = feed_by fields room (csv_rows bytes)
 
 abbrev pub more_feed : Inputs → (fields : ℕ) → List Name → List ℤ → Case Inputs
 more_feed inputs fields names cells = Go names (with_feed inputs (feed_with fields cells))
 
--- the faults of a file, by its bytes
-abbrev pub fault_rows : List ℕ → Result (List Fault) Broken
-fault_rows bytes = faults_by (csv_rows bytes)
-
 -- what comes of a record of this size, which has cells of 0 where it names no file
 abbrev pub by_record : Files → List Name → Inputs → (size : ℕ) → Option Name → Case Inputs
 by_record files names inputs size None = Go names (with_cells inputs (replicate size (pos 0)))
-by_record files names inputs size (Some file) = by_file names file (bytes_of files file) (record_rows size) (more_cells inputs)
+by_record files names inputs size (Some file) = by_file names file (bytes_of files file) (records_by size) (more_cells inputs)
 
 -- what comes of a head, after these files and inputs
 abbrev pub load_head : Files → List Name → Inputs → Head → Case Inputs
 load_head files names inputs (RecHead name size by from line) = by_record files names inputs (natural size) from
 load_head files names inputs (FeedHead name fields file line) =
-    by_file names file (bytes_of files file) (feed_rows (natural fields) (room_after inputs.feeds)) (more_feed inputs (natural fields))
+    by_file names file (bytes_of files file) (feed_by (natural fields) (room_after inputs.feeds)) (more_feed inputs (natural fields))
 load_head files names inputs head = Go names inputs
 
 -- what comes after it, where nothing is wrong
@@ -116,7 +105,7 @@ load files names inputs (head ∷ heads) = then_load (load_head files names inpu
 -- what comes of the file of faults, after these files, where one is named
 abbrev pub load_faults : Files → List Name → Option Name → Case (List Fault)
 load_faults files names None = Go names []
-load_faults files names (Some file) = by_file names file (bytes_of files file) fault_rows Go
+load_faults files names (Some file) = by_file names file (bytes_of files file) faults_by Go
 
 -- what they give
 abbrev pub supplied_for : Command → List Head → Files → Case Inputs

@@ -1,60 +1,24 @@
 -- Which lines are those of a lawful run, and of a whole one.
-use Rattle.std.specs.Prelude.{◌≡◌, ◌+◌, ℕ, suc, List, [], ◌∷◌, ◌++◌, length}
+use Rattle.std.specs.Prelude.{◌≡◌, ℕ, ◌-◌, List, map, take, Some}
 use Rattle.gp_base.specs.declared.fault.Fault.{Fault}
 use Rattle.gp_base.specs.declared.journal.Event.{Event}
-use Rattle.gp_base.specs.declared.journal.Event.TheVariants as event
-use Rattle.gp_base.specs.declared.journal.Restart.{Restart}
 use Rattle.dependence.specs.meaning.Restarts.{Dependence, restarts}
 use Rattle.dependence.specs.meaning.Journal.{Lawful, Complete}
 use Rattle.gp_audit.specs.declared.line.TraceLine.{TraceLine}
-use Rattle.gp_audit.specs.declared.line.TraceLine.TheVariants as line
 use Rattle.gp_audit.specs.declared.verdict.Verdict.{Verdict}
 use Rattle.gp_audit.specs.declared.verdict.Verdict.TheVariants.{Lawful as IsLawful, Unlawful, Incomplete}
+use Rattle.gp_audit.specs.meaning.Lines.{line_of}
 
--- the event for which a line stands, after so many restarts
-abbrev pub event_of : (made : ℕ) → TraceLine → Event
-event_of made (line.Issue position) = event.Issue position
-event_of made (line.Post position attempt) = event.Post position attempt
-event_of made (line.Take position attempt applies) = event.Take position attempt applies
-event_of made (line.Restart r) = event.Restart made
-event_of made (line.Retire position) = event.Retire position
-
--- how many restarts there are after the line
-abbrev pub made_after : ℕ → TraceLine → ℕ
-made_after made (line.Restart r) = suc made
-made_after made _ = made
-
--- the events for which lines stand
-abbrev pub events_from : (made : ℕ) → List TraceLine → List Event
-events_from made [] = []
-events_from made (line ∷ lines) = event_of made line ∷ events_from (made_after made line) lines
-
-abbrev pub events_of : List TraceLine → List Event
-events_of lines = events_from 0 lines
-
--- the restarts that lines tell, in order
-abbrev pub restarts_told : List TraceLine → List Restart
-restarts_told [] = []
-restarts_told (line.Restart r ∷ lines) = r ∷ restarts_told lines
-restarts_told (_ ∷ lines) = restarts_told lines
-
--- lines of a lawful journal, which tell the first of all restarts
+-- the lines of lawful events, which tell the restarts of the run by their numbers
 pub record LawfulLines (dependence : Dependence) (faults : List Fault) (lines : List TraceLine) : Type 0 where
-  pub lawful : Lawful dependence faults (events_of lines)
-  pub first : (rest : List Restart) × (restarts dependence faults ≡ restarts_told lines ++ rest)
+  pub events : List Event
+  pub lawful : Lawful dependence faults events
+  pub lines_are : map Some lines ≡ map (line_of (restarts dependence faults)) events
 
--- the first line with which the lines are not lawful has this number, counted from 1
-pub record IsFirstUnlawful (dependence : Dependence) (faults : List Fault) (lines : List TraceLine) (number : ℕ) : Type 0 where
-  pub before : List TraceLine
-  pub line : TraceLine
-  pub later : List TraceLine
-  pub lines_are : lines ≡ before ++ line ∷ later
-  pub numbered : number ≡ length before + 1
-  pub lawful : LawfulLines dependence faults before
-  pub unlawful : ¬ LawfulLines dependence faults (before ++ line ∷ [])
-
--- what an audit answers of lines
+-- What an audit answers of lines: they are those of a whole run; the first with which they are not lawful has this number, counted from 1; or they
+-- are lawful, and the run has not ended.
 abbrev pub IsVerdict : Dependence → List Fault → List TraceLine → Verdict → Type 0
-IsVerdict dependence faults lines IsLawful = LawfulLines dependence faults lines × Complete dependence faults (events_of lines)
-IsVerdict dependence faults lines (Unlawful number) = IsFirstUnlawful dependence faults lines number
-IsVerdict dependence faults lines Incomplete = LawfulLines dependence faults lines × ¬ Complete dependence faults (events_of lines)
+IsVerdict dependence faults lines IsLawful = (lawful : LawfulLines dependence faults lines) × Complete dependence faults lawful.events
+IsVerdict dependence faults lines (Unlawful number) =
+    LawfulLines dependence faults (take (number - 1) lines) × ¬ LawfulLines dependence faults (take number lines)
+IsVerdict dependence faults lines Incomplete = (lawful : LawfulLines dependence faults lines) × ¬ Complete dependence faults lawful.events

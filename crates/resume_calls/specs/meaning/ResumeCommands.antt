@@ -1,12 +1,12 @@
 -- The command `resume`, as one value of the record of promises.
-use Rattle.std.specs.Prelude.{ℕ, false, List, [], ⊤}
+use Rattle.std.specs.Prelude.{ℕ, List}
 use Rattle.task_ast.specs.meaning.Tree.{Name}
 use Rattle.gp_resume.specs.meaning.Resumed as rest
 use Rattle.command_line.specs.meaning.ResumeWords.{resumed_by}
 use Rattle.command_line.specs.declared.resume_words.Resumed.{Resumed}
 use Rattle.call_cases.specs.meaning.RunCommands.{IsWhole, end_status}
 use Rattle.call_cases.specs.meaning.RunCommands.{MayRead as MayReadFor}
-use Rattle.call_cases.specs.meaning.Commands.{Asking, Commands, Unlogged}
+use Rattle.call_cases.specs.meaning.Commands.{Asking, Commands, unjournalled}
 use Rattle.resume_calls.specs.meaning.Resumption.{Reader, Resumption, supplied}
 
 -- A file that may be read for what the words ask: one of those of the run, or that of the log.
@@ -30,18 +30,4 @@ asking reader =
 -- The promises: the output takes the text that is still to come, and the status is that of the run. The error stream then took nothing, and
 -- no run over a journal begins.
 abbrev pub commands : Reader → Commands Resumed Resumption
-commands reader = record {
-  asking = asking reader;
-  may_read = MayRead;
-  makes_files = λ resumed. false;
-  is_journalled = λ resumed. false;
-  has_journal = λ resumption. false;
-  status = rest_status;
-  text = rest_text;
-  whole = IsWhole;
-  error = λ resumed journal. [];
-  log = Unlogged;
-  lawful = λ resumption journal. ⊤;
-  complete = λ resumption journal. ⊤;
-  retired = λ resumption journal out. ⊤;
-}
+commands reader = unjournalled (asking reader) MayRead rest_status IsWhole rest_text

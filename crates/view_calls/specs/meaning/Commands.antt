@@ -1,5 +1,5 @@
 -- What the words of `gprs_view` ask for, and what is done for that, as one value of the record of promises.
-use Rattle.std.specs.Prelude.{◌≡◌, ◌⊎◌, ℕ, suc, ◌+◌, true, false, nat_lt, List, [], ◌∷◌, ◌++◌, length, take, drop, get_or, Option, Some, None, option_and_then, option_map, codes, ⊤, if◌then◌else◌}
+use Rattle.std.specs.Prelude.{◌≡◌, ◌⊎◌, ℕ, suc, ◌+◌, true, nat_lt, List, [], ◌∷◌, ◌++◌, length, take, drop, get_or, Option, Some, None, option_and_then, option_map, codes, if◌then◌else◌}
 use Rattle.std.specs.Option.{option_or}
 use Rattle.std.specs.Str.{bytes_eq}
 use Rattle.task_ast.specs.meaning.Tree.{Name}
@@ -8,7 +8,7 @@ use Rattle.command_line.specs.meaning.WhyWords.{sought_by}
 use Rattle.command_line.specs.declared.asked.Asked.{Asked}
 use Rattle.command_line.specs.declared.asked.Verb.TheVariants.{Run, One}
 use Rattle.command_line.specs.declared.why_words.Sought.{Sought}
-use Rattle.call_cases.specs.meaning.Commands.{Asking, Commands, Unlogged}
+use Rattle.call_cases.specs.meaning.Commands.{Asking, Commands, unjournalled}
 use Rattle.call_cases.specs.meaning.RunCommands as gprs
 use Rattle.audit_calls.specs.meaning.Tried.{Judge}
 use Rattle.view_calls.specs.declared.words.Viewed.{Viewed}
@@ -76,18 +76,4 @@ IsShown status = (status ≡ 0) ⊎ (status ≡ 5)
 
 -- the promises: no run over a journal begins, and a run that is stuck or has spent its limits is shown like any other
 abbrev pub commands : Judge → Commands Viewed Sight
-commands judge = record {
-  asking = asking judge;
-  may_read = MayRead;
-  makes_files = λ viewed. false;
-  is_journalled = λ viewed. false;
-  has_journal = λ sight. false;
-  status = sight_status;
-  text = sight_text;
-  whole = IsShown;
-  error = λ viewed journal. [];
-  log = Unlogged;
-  lawful = λ sight journal. ⊤;
-  complete = λ sight journal. ⊤;
-  retired = λ sight journal out. ⊤;
-}
+commands judge = unjournalled (asking judge) MayRead sight_status IsShown sight_text

@@ -9,7 +9,7 @@ returns-in-Ok-clause-told c =
     λ judge names work. lines_told judge names c.args.name.now work c.args.text.now c.in-Ok.lines c.requires c.in-Ok.ensures
 
 pub returns-in-Ok-clause-few : goal.returns-in-Ok-clause-few
-returns-in-Ok-clause-few c = few_read c.args.text.now c.in-Ok.lines c.requires c.in-Ok.ensures.1
+returns-in-Ok-clause-few c = few_read c.args.text.now c.in-Ok.lines c.requires c.in-Ok.ensures
 
 pub returns-in-Err-Line-clause-told : goal.returns-in-Err-Line-clause-told
 returns-in-Err-Line-clause-told c = λ judge names work.

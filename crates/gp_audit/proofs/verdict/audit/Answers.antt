@@ -4,11 +4,13 @@ use Rattle.std.proofs.lemmas.Bool.{false≢true}
 use Rattle.gp_base.specs.declared.fault.Fault.{Fault}
 use Rattle.dependence.specs.meaning.Journal.{Complete}
 use Rattle.dependence.specs.Standing.{AreShort}
+use Rattle.gp_audit.specs.declared.verdict.Verdict.TheVariants.{Lawful, Unlawful, Incomplete}
 use Rattle.gp_audit.specs.Steps.{dependence_by}
-use Rattle.gp_audit.specs.meaning.Verdicts.{events_of, LawfulLines}
+use Rattle.gp_audit.specs.ToldLines.{events_of, TellLawful}
 use Rattle.gp_audit.specs.inner.Audited.{Audited, kept, Takes, after_line}
 use Rattle.gp_audit.specs.inner.Told.{Told}
 use Rattle.gp_audit.proofs.Audits.{told-within, told-noteworthy, told-next, told-stops, told-whole, same-steps, of-given}
+use Rattle.gp_audit.proofs.ToldVerdicts.{told-verdict}
 use Rattle.gp_audit.proofs.verdict.audit.Goals as goal
 
 pub takes_line-requires-clause-within : goal.takes_line-requires-clause-within
@@ -41,7 +43,8 @@ returns-then-not-branch c =
     let more : take (i + 1) all ≡ before ++ line ∷ [] =
     take_more all i line test ∙ ap (λ l. before ++ l ∷ []) (sym c.index-lines-number.is) in
     let long = length-take-le i all (omega arith) in
-    record {
+    told-verdict (dependence_by c.args.order.now) c.args.faults.now.list c.args.lines.now (Unlawful _)
+    (record {
       before = before;
       line = line;
       later = drop (i + 1) all;
@@ -50,13 +53,13 @@ returns-then-not-branch c =
           ∙ (ap (λ l. l ++ drop (i + 1) all) more ∙ append_assoc before (line ∷ []) (drop (i + 1) all)));
       numbered = omega arith;
       lawful =
-          of-given (λ steps faults lines. LawfulLines (dependence_by steps) faults lines) a.steps c.args.order.now a.faults
+          of-given (λ steps faults lines. TellLawful (dependence_by steps) faults lines) a.steps c.args.order.now a.faults
           c.args.faults.now.list before before so.steps so.faults refl so.told.lawful;
       unlawful =
-          of-given (λ steps faults lines. ¬ LawfulLines (dependence_by steps) faults lines) a.steps c.args.order.now a.faults
+          of-given (λ steps faults lines. ¬ TellLawful (dependence_by steps) faults lines) a.steps c.args.order.now a.faults
           c.args.faults.now.list (before ++ line ∷ []) (before ++ line ∷ []) so.steps so.faults refl
           (told-stops a before so.told short line none);
-    }
+    })
 
 pub loop-number-preserved : goal.loop-number-preserved
 loop-number-preserved c =
@@ -88,8 +91,9 @@ returns-then-is_whole c =
     let lines = take c.loop-number.number all in
     let whole : lines ≡ c.args.lines.now = take_all c.loop-number.number all c.loop-number-test.false ∙ c.as_slice-lines.ensures in
     let short : AreShort c.loop-number.audit.faults.now =
-    subst AreShort (sym so.faults) (λ k d l. (c.args.faults.now.in_range k d l).delay) in (
-      of-given (λ steps faults lines. LawfulLines (dependence_by steps) faults lines) a.steps c.args.order.now a.faults
+    subst AreShort (sym so.faults) (λ k d l. (c.args.faults.now.in_range k d l).delay) in
+    told-verdict (dependence_by c.args.order.now) c.args.faults.now.list c.args.lines.now Lawful (
+      of-given (λ steps faults lines. TellLawful (dependence_by steps) faults lines) a.steps c.args.order.now a.faults
           c.args.faults.now.list lines c.args.lines.now so.steps so.faults whole so.told.lawful,
       of-given (λ steps faults lines. Complete (dependence_by steps) faults (events_of lines)) a.steps c.args.order.now a.faults
           c.args.faults.now.list lines c.args.lines.now so.steps so.faults whole
@@ -104,8 +108,9 @@ returns c =
     let lines = take c.loop-number.number all in
     let whole : lines ≡ c.args.lines.now = take_all c.loop-number.number all c.loop-number-test.false ∙ c.as_slice-lines.ensures in
     let short : AreShort c.loop-number.audit.faults.now =
-    subst AreShort (sym so.faults) (λ k d l. (c.args.faults.now.in_range k d l).delay) in (
-      of-given (λ steps faults lines. LawfulLines (dependence_by steps) faults lines) a.steps c.args.order.now a.faults
+    subst AreShort (sym so.faults) (λ k d l. (c.args.faults.now.in_range k d l).delay) in
+    told-verdict (dependence_by c.args.order.now) c.args.faults.now.list c.args.lines.now Incomplete (
+      of-given (λ steps faults lines. TellLawful (dependence_by steps) faults lines) a.steps c.args.order.now a.faults
           c.args.faults.now.list lines c.args.lines.now so.steps so.faults whole so.told.lawful,
       of-given (λ steps faults lines. ¬ Complete (dependence_by steps) faults (events_of lines)) a.steps c.args.order.now a.faults
           c.args.faults.now.list lines c.args.lines.now so.steps so.faults whole

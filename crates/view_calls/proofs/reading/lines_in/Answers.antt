@@ -7,7 +7,7 @@ use Rattle.view_calls.proofs.Readings.{read_judged, row_told}
 use Rattle.view_calls.proofs.reading.lines_in.Goals as goal
 
 pub lawful_lines-requires-clause-few : goal.lawful_lines-requires-clause-few
-lawful_lines-requires-clause-few c = few_read c.args.text.now c.in-Ok.lines c.requires.short c.in-Ok.ensures.1
+lawful_lines-requires-clause-few c = few_read c.args.text.now c.in-Ok.lines c.requires.short c.in-Ok.ensures
 
 pub returns-in-Ok-clause-told : goal.returns-in-Ok-clause-told
 returns-in-Ok-clause-told c = λ judge names position.
