@@ -1,13 +1,9 @@
 -- Which data statements are resolved, and what they do, part by part.
-use Rattle.std.proofs.Common.{◌≡◌, zero, suc, ℤ, pos, negsuc, Bool, true, false, ◌&&◌, List, [], ◌∷◌, ◌++◌, map, Option, Some, None, refl, sym, ap, ◌∙◌, append_assoc, arith, option_map, option_and_then}
+use Rattle.std.proofs.Common.{◌≡◌, zero, suc, ℤ, pos, negsuc, true, false, ◌&&◌, List, [], ◌∷◌, ◌++◌, map, Option, Some, None, refl, sym, ap, ◌∙◌, append_assoc, arith, option_map, option_and_then}
 use Rattle.std.specs.Prelude.{is_some}
 use Rattle.std.specs.Ordering.{int_eq}
 use Rattle.std.proofs.lemmas.Bool.{false≢true}
 use Rattle.std.proofs.lemmas.Bool.Decides.{Decides-int_eq}
-use Rattle.task_ast.specs.declared.env.Env.{Env}
-use Rattle.task_ast.specs.declared.tree.Op.{Op}
-use Rattle.task_ast.specs.meaning.Tree.{Name, Expr, Num, Ctl, Reg, Me, Rows, Cell, Neg, Not, Chain, Links, NoLinks, Link}
-use Rattle.task_ast.specs.meaning.Value.{value, value_on, operate, operate_on}
 use Rattle.task_ast.specs.meaning.Action.{OfRegisters, Action, Say, Choose, Arm}
 use Rattle.task_ast.specs.meaning.Control.{all_of}
 use Rattle.task_ast.proofs.Arms.{map_some, chosen, some_is, DoesInOrder}

@@ -1,7 +1,7 @@
 // Data statements.
-ghost use Rattle.std.specs.Prelude.{◌≡◌, ℤ, ◌≤◌, List, map, is_some, option_map, unwrap_or, position, pos, zip, IfOk, OnOk, Some};
+ghost use Rattle.std.specs.Prelude.{◌≡◌, ℤ, ◌≤◌, List, map, is_some, option_map, unwrap_or, pos, zip, IfOk, OnOk, Some};
 ghost use Rattle.std.specs.Ordering.{int_eq};
-ghost use Rattle.task_ast.specs.meaning.Names.{slot, is_name, records_of, cells_in, cell_number};
+ghost use Rattle.task_ast.specs.meaning.Names.{slot, records_of, cells_in, cell_number};
 ghost use Rattle.task_ast.specs.meaning.Value.{value, value_at, value_on};
 ghost use Rattle.task_ast.specs.meaning.Action.{of_registers};
 ghost use Rattle.task_ast.specs.meaning.Control.{action, arm, all_of};
