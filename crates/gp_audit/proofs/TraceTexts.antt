@@ -12,7 +12,7 @@ use Rattle.gp_audit.specs.declared.line.TraceLine.{TraceLine}
 use Rattle.gp_audit.specs.declared.line.TraceLine.TheVariants as line
 use Rattle.gp_audit.specs.LineTexts.{line_text, lines_text, IsNarrow, IsNarrowLine, BreaksAt}
 use Rattle.gp_audit.specs.ToldLines.{events_from, events_of, restarts_told}
-use Rattle.gp_audit.specs.meaning.Lines.{line_of, numbers_of, IsTrace}
+use Rattle.gp_audit.specs.meaning.Lines.{line_of, numbers_told, IsTrace}
 use Rattle.gp_audit.specs.meaning.Reading.{IsBrokenAt}
 
 post : (w x d n : List ℕ) → (w ++ (x ++ d)) ++ n ≡ (w ++ x) ++ (d ++ n)
@@ -112,7 +112,7 @@ two n m first second = All-cons IsNarrow n (m ∷ []) first (one m second)
 both : (n m : ℕ) → All IsNarrow (n ∷ m ∷ []) → IsNarrow n × IsNarrow m
 both n m all = (All-head IsNarrow n (m ∷ []) all, All-head IsNarrow m [] (All-tail IsNarrow n (m ∷ []) all))
 
-numbers-narrow : (l : TraceLine) → IsNarrowLine l → All IsNarrow (numbers_of l)
+numbers-narrow : (l : TraceLine) → IsNarrowLine l → All IsNarrow (numbers_told l)
 numbers-narrow (line.Issue p) narrow = one p narrow
 numbers-narrow (line.Post p a) narrow = two p a narrow.0 narrow.1
 numbers-narrow (line.Take p a x) narrow = two p a narrow.0 narrow.1
@@ -121,7 +121,7 @@ numbers-narrow (line.Restart r) narrow =
     (All-cons IsNarrow r.attempt r.redo narrow.attempt narrow.redo))
 numbers-narrow (line.Retire p) narrow = one p narrow
 
-line-narrow : (l : TraceLine) → All IsNarrow (numbers_of l) → IsNarrowLine l
+line-narrow : (l : TraceLine) → All IsNarrow (numbers_told l) → IsNarrowLine l
 line-narrow (line.Issue p) all = All-head IsNarrow p [] all
 line-narrow (line.Post p a) all = both p a all
 line-narrow (line.Take p a x) all = both p a all

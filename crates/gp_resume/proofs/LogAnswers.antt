@@ -10,12 +10,12 @@ use Rattle.gp_base.specs.declared.feed.Inputs.{Inputs}
 use Rattle.task_ast.specs.meaning.Tree.{Program}
 use Rattle.retirement_log.specs.meaning.Rows.{Retirement, row_text, log_text, IsWideRow}
 use Rattle.gp_resume.specs.meaning.Fitting.{Fit}
-use Rattle.gp_resume.specs.meaning.Reading.{EndsNoLine, BeginsWithRow, BeginsWith, LogAnswer, Rows, Broken, Unfit, IsAnswer}
+use Rattle.gp_resume.specs.inner.RowsRead.{BeginsWithRow}
+use Rattle.gp_resume.specs.meaning.Reading.{EndsNoLine, BeginsWith, LogAnswer, Rows, Broken, Unfit, IsAnswer}
 use Rattle.gp_resume.proofs.Choices.{Choice, contains}
 use Rattle.gp_resume.proofs.FitChoices.{one-more, fit-upto}
 use Rattle.gp_resume.proofs.FoundRows.{row-found}
 use Rattle.gp_resume.proofs.LogRows.{ends-line, row-some, log-cons, no-rows, next-row}
-use Rattle.gp_resume.proofs.RowFronts.{none-begins}
 use Rattle.gp_resume.proofs.RowsOnce.{row-once}
 
 no-line : (bytes : List ℕ) → Choice (EndsNoLine bytes)
@@ -82,8 +82,8 @@ module _ (program : Program) (inputs : Inputs) (limits : Limits) where
         rows = is.rows;
         rest = is.rest;
         begins = is.begins;
-        stops = λ r later wide same fit. is.no_row (record { row = r; wide = wide; rest = later; bytes_are = same });
-        settles = (is.counted, is.some_line, is.no_row);
+        stops = λ r later wide same fit. is.no_row r later wide same;
+        settles = (is.counted, is.some_line, λ begins. is.no_row begins.row begins.rest begins.wide begins.bytes_are);
       }
   settled bytes (Unfit n) is =
       record {
@@ -160,7 +160,14 @@ module _ (program : Program) (inputs : Inputs) (limits : Limits) where
           ]
           | inr none ↦ inl (
             Broken (length rows + 1),
-            record { rows = rows; rest = rest; begins = begins; some_line = some; no_row = none-begins rest none; counted = refl },
+            record {
+              rows = rows;
+              rest = rest;
+              begins = begins;
+              some_line = some;
+              no_row = λ row after wide same. none row after wide tt same;
+              counted = refl;
+            },
           )
         ]
       ]

@@ -23,7 +23,7 @@ use Rattle.retirement_log.specs.meaning.Rows.{Retirement}
 use Rattle.gp_resume.specs.declared.course.Plan.{Plan}
 use Rattle.gp_resume.specs.declared.course.Begun.{Begun}
 use Rattle.gp_resume.specs.declared.course.Course.{Course}
-use Rattle.gp_resume.specs.meaning.Fitting.{StandsUnder, child_in, left_by}
+use Rattle.gp_resume.specs.meaning.Fitting.{StandsUnder, left_by}
 use Rattle.gp_resume.specs.inner.Course.{IsSuited, IsHome, IsSound, AreNumbered, Begins, IsSameRun, Stands, spot_place, run_in}
 use Rattle.gp_resume.specs.inner.RowsRead.{write_in, with_cells}
 use Rattle.gp_resume.proofs.Tasks.{numbered-set, begun-next, begun-rests}
@@ -38,25 +38,17 @@ pub all-under : (under : List (List ℕ)) (held : List ℕ) (cells : List (ℤ �
 all-under under held cells stand =
     All-map (λ w. is_under under held w.0 ≡ true) write_in cells (λ k d less. under-one under held (get_or cells k d) (stand k d less))
 
-child-is : (row : Retirement) (child : Option ℕ) → option_map (λ c. (c, row.child)) child ≡ child_in row child
-child-is row None = refl
-child-is row (Some c) = refl
-
 -- the effect that a row says
 pub effect-said : (row : Retirement) (t u : ℕ) (child other : Option ℕ) → t ≡ u → child ≡ other
     → with_cells (record { thread = t; regs = row.regs; child = option_map (λ c. (c, row.child)) child; prints = [] }) row.cells
     ≡ left_by row u other
-effect-said row t u child other threads children =
-    (λ i. record {
-      thread = threads i;
-      writes = map write_in row.cells;
-      regs = row.regs;
-      child = option_map (λ c. (c, row.child)) (children i);
-      prints = [];
-    })
-    ∙ ap (λ (c : Option (ℕ × List ℤ)).
-    let e : Effect = record { thread = u; writes = map write_in row.cells; regs = row.regs; child = c; prints = [] } in e)
-    (child-is row other)
+effect-said row t u child other threads children = λ i. record {
+  thread = threads i;
+  writes = map write_in row.cells;
+  regs = row.regs;
+  child = option_map (λ c. (c, row.child)) (children i);
+  prints = [];
+}
 
 -- soundness says nothing of the data
 pub sound-for : (plan : Plan) (y : Plain) (state : State) → IsSound plan y → IsSound plan (record y { state = state })

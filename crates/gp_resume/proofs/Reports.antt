@@ -30,8 +30,8 @@ use Rattle.gp_resume.specs.declared.course.Plan.{Plan}
 use Rattle.gp_resume.specs.declared.course.Course.{Course}
 use Rattle.gp_resume.specs.meaning.Fitting.{FitsMove, led_by, replayed, run_after, FitFrom, Fit, resumed_at, least_bytes}
 use Rattle.gp_resume.specs.meaning.Resumed as resumed
-use Rattle.gp_resume.specs.meaning.Resumed.{lines_of, bytes_from, bytes_before}
-use Rattle.gp_resume.specs.Resuming.{AnswersLog, IsRefused, ReportsRest, IsEachOnce, AreSomeOnce}
+use Rattle.gp_resume.specs.meaning.Resumed.{lines_of, bytes_before}
+use Rattle.gp_resume.specs.Resuming.{AnswersLog, IsRefused, ReportsRest, IsEachOnce, AreSomeOnce, bytes_from}
 use Rattle.gp_resume.specs.declared.stop.ResumeStop.{ResumeStop}
 use Rattle.gp_resume.specs.declared.stop.ResumeStop.TheVariants as stop
 use Rattle.gp_resume.specs.meaning.Reading.{Rows, IsLogOf}

@@ -7,7 +7,7 @@ use Rattle.std.specs.Str.{all_ascii_digits}
 use Rattle.std.proofs.lemmas.Bool.{and_parts}
 use Rattle.restart_log.specs.meaning.Lines.{spaced}
 use Rattle.retirement_log.specs.meaning.Rows.{Retirement, group, cell_numbers, row_text, IsWide, IsWideRow}
-use Rattle.gp_resume.specs.meaning.Reading.{BeginsWithRow}
+use Rattle.gp_resume.specs.inner.RowsRead.{BeginsWithRow}
 use Rattle.gp_resume.specs.inner.Fronts.{IsOnlyFront, EndsNumber, EndsNumbers, EndsCells, IsWideCell, Anything, is_numeral, spaced_number, cell_text, cells_end, head_text}
 use Rattle.gp_resume.proofs.Fronts.{NoFront, both, both_fit, then-some, then-none, first-none, word-then, no-word, word-then-none, then-word, then-no-word}
 use Rattle.gp_resume.proofs.Printed.{printed-numeral, printed-some}

@@ -17,7 +17,8 @@ use Rattle.gp_resume.specs.declared.course.Course.{Course}
 use Rattle.gp_resume.specs.declared.log.Logged.{Logged}
 use Rattle.gp_resume.specs.meaning.Fitting.{least_bytes, FitsMove, replayed, run_after, FitFrom, Fit, resumed_at}
 use Rattle.gp_resume.specs.meaning.Reading.{BeginsWith, IsUnfitAt}
-use Rattle.gp_resume.specs.meaning.Resumed.{bytes_from, bytes_before}
+use Rattle.gp_resume.specs.meaning.Resumed.{bytes_before}
+use Rattle.gp_resume.specs.Resuming.{bytes_from}
 use Rattle.gp_resume.specs.inner.Course.{StandsAt}
 use Rattle.gp_resume.specs.inner.Going.{HasReplayed}
 use Rattle.gp_resume.proofs.LogRows.{few-rows, next-row}

@@ -18,7 +18,8 @@ use Rattle.restart_log.specs.meaning.Tail.{tail_text}
 use Rattle.crew.specs.meaning.Noted.{left_at, left_from, left_in_order}
 use Rattle.retirement_log.specs.meaning.Rows.{Retirement}
 use Rattle.retirement_log.specs.meaning.Log.{size_of, rows_from}
-use Rattle.gp_resume.specs.meaning.Resumed.{lines_of, first_line, end, final_records, count, text, bytes_from, bytes_before}
+use Rattle.gp_resume.specs.meaning.Resumed.{lines_of, first_line, end, final_records, count, text, bytes_before}
+use Rattle.gp_resume.specs.Resuming.{bytes_from}
 use Rattle.gp_resume.specs.Laws.{own_rows, text_before, text_of_one, IsRest}
 use Rattle.retirement_log.proofs.Placed.{plain_lines}
 use Rattle.gp_resume.proofs.Replaying.{length-left, length-own, is-rest}

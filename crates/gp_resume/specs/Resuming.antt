@@ -1,5 +1,5 @@
 -- What a call leaves that goes on from a log.
-use Rattle.std.specs.Prelude.{◌≡◌, ◌↔◌, ℕ, pos, ◌≤◌, ◌<◌, ⊤, List, [], Result, Ok, Err, Contains}
+use Rattle.std.specs.Prelude.{◌≡◌, ◌↔◌, ℕ, ℤ, pos, fold, ◌≤◌, ◌<◌, ⊤, List, [], Result, Ok, Err, Contains}
 use Rattle.std.specs.List.{IsDistinct}
 use Rattle.gp_base.specs.meaning.Sinks.{Rose}
 use Rattle.gp_base.specs.declared.limits.Limits.{Limits}
@@ -26,6 +26,10 @@ abbrev pub IsRefused : {T : Type 0} → Result T ResumeStop → Type 0
 IsRefused (Err (LogLine number)) = ⊤
 IsRefused (Err (LogFit number)) = ⊤
 IsRefused result = ⊥
+
+-- the bytes of the text up to the lines of the last of these rows, or so many where there is none
+abbrev pub bytes_from : ℤ → List Retirement → ℤ
+bytes_from b rows = fold (λ (bytes : ℤ) (row : Retirement). row.bytes) b rows
 
 -- How the run ended that went on from these rows, whose text had so many bytes: with the end, the records and the count that it has by
 -- definition; nothing was restarted, no fault was there, and no journal was kept.

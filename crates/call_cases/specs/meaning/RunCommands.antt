@@ -7,7 +7,7 @@ use Rattle.task_ast.specs.meaning.Tree.{Name}
 use Rattle.restart_log.specs.meaning.Trace.{trace_text}
 use Rattle.command_line.specs.meaning.Words.{asked_by, asked_among}
 use Rattle.command_line.specs.declared.asked.Command.{Command}
-use Rattle.command_line.specs.declared.asked.Command.TheVariants.{Run, One, Check, Soak, Ckpt, Log}
+use Rattle.command_line.specs.declared.asked.Command.TheVariants.{One, Check, Soak}
 use Rattle.command_line.specs.declared.asked.Asked.{Asked}
 use Rattle.call_cases.specs.meaning.Work.{ToDo, runs, makes_files, is_journalled}
 use Rattle.call_cases.specs.meaning.InputFiles.{supplied_by}
@@ -33,12 +33,10 @@ IsWhole status = (status ≡ 0) ⊎ (status ≡ 5) ⊎ (status ≡ 6)
 
 -- what is written of it
 abbrev pub work_text : Command → ToDo → List ℕ
-work_text Run work = run_text (plain_ran work) (restarts_in work) (length work.faults)
 work_text One work = run_text (plain_ran work) [] 0
 work_text Check work = codes "ok\n"
 work_text (Soak soak) work = run_soak soak (plain_ran work) (restarts_in work) (length work.faults)
-work_text (Ckpt every) work = run_text (plain_ran work) (restarts_in work) (length work.faults)
-work_text Log work = run_text (plain_ran work) (restarts_in work) (length work.faults)
+work_text command work = run_text (plain_ran work) (restarts_in work) (length work.faults)
 
 -- the trace of the journal, where one is asked for
 abbrev pub trace_for : Asked → Journal → List ℕ

@@ -1,5 +1,5 @@
 -- Which rows fit a program: its threads take their turns as the control of the program has it, where the data are what the rows say.
-use Rattle.std.specs.Prelude.{◌≡◌, ⊤, ℕ, ℤ, pos, ◌≤ℤ◌, List, [], ◌∷◌, length, map, codes, All, Option, Some, None, IsTrue}
+use Rattle.std.specs.Prelude.{◌≡◌, ⊤, ℕ, ℤ, pos, ◌≤ℤ◌, List, [], ◌∷◌, length, map, codes, All, Option, Some, None, option_map, IsTrue}
 use Rattle.std.specs.Ordering.{nat_cmp}
 use Rattle.std.specs.FinMap.{is_sorted}
 use Rattle.gp_base.specs.declared.limits.Limits.{Limits}
@@ -23,14 +23,10 @@ use Rattle.retirement_log.specs.meaning.Rows.{Retirement}
 abbrev pub writes_in : Retirement → List (ℕ × ℤ)
 writes_in row = map (λ cell. (natural cell.0, cell.1)) row.cells
 
--- the registers of the child, if there is one
-abbrev pub child_in : Retirement → Option ℕ → Option (ℕ × List ℤ)
-child_in row None = None
-child_in row (Some child) = Some (child, row.child)
-
 -- what a row says that a subthread left, but for its lines
 abbrev pub left_by : Retirement → (thread : ℕ) → (child : Option ℕ) → Effect
-left_by row t child = record { thread = t; writes = writes_in row; regs = row.regs; child = child_in row child; prints = [] }
+left_by row t child =
+    record { thread = t; writes = writes_in row; regs = row.regs; child = option_map (λ c. (c, row.child)) child; prints = [] }
 
 -- how many registers a subthread that begins so gives to a child; where it forks none, there are none
 abbrev pub child_size : Program → SyncOp → ℕ

@@ -1,5 +1,5 @@
 -- What the bytes of a log come to: its rows, or the first of them that is refused.
-use Rattle.std.specs.Prelude.{◌≡◌, ◌+◌, ℕ, List, [], ◌∷◌, ◌++◌, length, All, Contains}
+use Rattle.std.specs.Prelude.{◌≡◌, ◌≢◌, ◌+◌, ℕ, List, [], ◌∷◌, ◌++◌, length, All, Contains}
 use Rattle.gp_base.specs.declared.limits.Limits.{Limits}
 use Rattle.gp_base.specs.declared.feed.Inputs.{Inputs}
 use Rattle.task_ast.specs.meaning.Tree.{Program}
@@ -9,13 +9,6 @@ use Rattle.gp_resume.specs.meaning.Fitting.{Fit}
 -- no line ends in these bytes
 abbrev pub EndsNoLine : List ℕ → Type 0
 EndsNoLine bytes = ¬ Contains bytes 10
-
--- a row stands at the front of these bytes
-pub record BeginsWithRow (bytes : List ℕ) : Type 0 where
-  pub row : Retirement
-  pub wide : IsWideRow row
-  pub rest : List ℕ
-  pub bytes_are : bytes ≡ row_text row ++ rest
 
 module _ (program : Program) (inputs : Inputs) (limits : Limits) where
   -- the bytes begin with these rows, which fit, and go on with the rest
@@ -36,7 +29,7 @@ module _ (program : Program) (inputs : Inputs) (limits : Limits) where
     pub rest : List ℕ
     pub begins : BeginsWith bytes rows rest
     pub some_line : ¬ EndsNoLine rest
-    pub no_row : ¬ BeginsWithRow rest
+    pub no_row : (row : Retirement) (after : List ℕ) → IsWideRow row → rest ≢ row_text row ++ after
     pub counted : number ≡ length rows + 1
 
   -- the first row that is refused is this one, counted from 1, since it doesn't fit

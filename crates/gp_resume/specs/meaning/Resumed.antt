@@ -1,5 +1,5 @@
 -- The run that goes on from rows, and its text.
-use Rattle.std.specs.Prelude.{ℕ, suc, ℤ, pos, ◌+◌, ◌-◌, List, [], ◌∷◌, ◌++◌, length, map, flat_map, codes}
+use Rattle.std.specs.Prelude.{ℕ, suc, ℤ, pos, ◌+◌, ◌-◌, List, [], ◌∷◌, ◌++◌, length, map, flat_map, fold, codes}
 use Rattle.gp_base.specs.declared.limits.Limits.{Limits}
 use Rattle.gp_base.specs.declared.feed.Inputs.{Inputs}
 use Rattle.gp_base.specs.declared.ending.End.{End}
@@ -25,14 +25,9 @@ abbrev pub first_line : List Retirement → List ℕ
 first_line [] = codes "output\n"
 first_line (row ∷ rows) = []
 
--- the bytes of the text up to the lines of the last of these rows, or so many where there is none
-abbrev pub bytes_from : ℤ → List Retirement → ℤ
-bytes_from b [] = b
-bytes_from b (row ∷ rows) = bytes_from row.bytes rows
-
--- the bytes of the text that was there before
+-- the bytes of the text that was there before: those up to the lines of the last of these rows, or 0 where there is none
 abbrev pub bytes_before : List Retirement → ℤ
-bytes_before rows = bytes_from (pos 0) rows
+bytes_before rows = fold (λ (bytes : ℤ) (row : Retirement). row.bytes) (pos 0) rows
 
 module _ (program : Program) (inputs : Inputs) (limits : Limits) (rows : List Retirement) where
   -- where the run goes on
