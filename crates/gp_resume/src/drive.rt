@@ -137,6 +137,9 @@ fn report_of(alloc: Global, end: End, course: Course) -> Report
 /// how many bytes the text had up to the lines of the last row, or 0 where there is none, and what the run comes to,
 /// whose count has the positions of the log too.
 ///
+/// `mean_steps` is the table in which the crew notes the steps of its runs, if it does: a subthread that is light by it goes
+/// alone, and others begin beside one that is heavy or new.
+///
 /// `LogLine` and `LogFit` tell the first row of the log that is none, or that does not fit the program, these inputs and limits; nothing is
 /// written or posted then. `WriteFault` and `OutOfMemory` are that the output took no more, or memory is out; a part of the lines is written then. What the rows say that
 /// fit is taken as it stands: that they are those of this program's own run is not looked at.

@@ -67,12 +67,14 @@ fn drive_rest<R: Threads + Sync, C: Crew, O: Sink>(
     requires none_posted { C.posted crew.old ≡ [] }
     ensures { Drives (program_in code.now) inputs limits log.now (change_of O.written O.faults out.old out.new) result }
 {
-    resume_drive(rt, alloc, code, layout, inputs, limits, log, mean_steps, crew, out)
+    resume_drive(
+        rt, alloc, code, layout, inputs, limits, log, mean_steps, crew, out,
+    )
 }
 
-/// Goes on with the run of a plan from the text of its log, by a crew to which nothing was posted and which keeps this table of mean steps, and writes the text
-/// that is still to come: the first line where it was not written before, the printed lines, and the tail. The answer
-/// is the status.
+/// Goes on with the run of a plan from the text of its log, by a crew to which nothing was posted, with the table in which
+/// that notes the steps of its runs, and writes the text that is still to come: the first line where it was not written
+/// before, the printed lines, and the tail. The answer is the status.
 pub fn put_rest<R: Threads + Sync, C: Crew, O: Sink>(
     rt: &R,
     alloc: Global,
@@ -101,7 +103,9 @@ pub fn put_rest<R: Threads + Sync, C: Crew, O: Sink>(
         Ok(()) => {}
         Err(stop) => return Err(stop),
     }
-    let report = match drive_rest(rt, alloc, code, layout, inputs, limits, log, mean_steps, crew, out) {
+    let report = match drive_rest(
+        rt, alloc, code, layout, inputs, limits, log, mean_steps, crew, out,
+    ) {
         Ok((_, report)) => report,
         Err(stop) => return Err(stop),
     };
