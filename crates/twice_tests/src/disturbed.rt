@@ -59,29 +59,27 @@ task main() {
 }
 ";
 
-// A row is read first at position 2, and others at 4 and 6.
+// All lines before the settle are published when position 1 begins with it; a row is read first at position 2, and others at
+// 4 and 6.
 const FED: &str = "lock gate[1];
 feed rate[2] from \"r.csv\";
 task main() {
-  var i;
+  var i, n, $x;
   print 1;
+  settle $x into n;
   while i < 3 {
     lock gate[0];
-    unlock gate[0];
     print rate[i + 6, 1];
+    unlock gate[0];
     i = i + 1;
   }
 }
 ";
 
-// Of a feed it is only read how many rows it has, at position 1.
-const COUNTED: &str = "lock gate[1];
-feed rate[2] from \"r.csv\";
+// Of a feed it is only read how many rows it has.
+const COUNTED: &str = "feed rate[2] from \"r.csv\";
 task main() {
-  print 1;
-  lock gate[0];
   print rows(rate);
-  unlock gate[0];
 }
 ";
 
@@ -312,8 +310,8 @@ fn a_changed_sum_of_feeds_is_told_where_a_row_is_read(rt: HostRuntime) -> Result
     answers(&rt, FED, "run p.gp", disturbed, 1, output, line)?;
     answers(&rt, FED, "one p.gp", disturbed, 1, output, line)?;
     answers(&rt, "", "soak 4 1 --crew one", disturbed, 1, "", line)?;
-    let line = "gprs_twice: data damaged at position 1\n";
-    answers(&rt, COUNTED, "run p.gp", disturbed, 1, output, line)
+    let line = "gprs_twice: data damaged at position 0\n";
+    answers(&rt, COUNTED, "run p.gp", disturbed, 1, "output\n", line)
 }
 
 // A recheck that has the sums over a feed of ten cells, whose rows have two: a sum stands for eight cells.
