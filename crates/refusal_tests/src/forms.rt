@@ -89,7 +89,7 @@ const PARSING: [Case; 17] = [
         b"task main() {\n  var i, $x;\n  i = 1\n  i = 2;\n}\n",
         UnknownName,
         1,
-        b"p.gp:4:3: `i` cannot stand here; `;` or an operator was expected\n  i = 2;\n  ^\nparse 1: the first token that no program goes on with (parse 1 at byte 37)\n",
+        b"p.gp:4:3: `i` cannot stand here; `;` or an operator was expected\n  i = 2;\n  ^\nparse 1: the first token that no program goes on with (parse 1 at byte 37)\nhint: a `;` is missing at the end of line 3\n",
     ),
     (
         b"task main() {\n  var i, $x;\n  i = 1 < 2 < 3;\n}\n",
@@ -107,13 +107,13 @@ const PARSING: [Case; 17] = [
         b"task main() {\n  var i, $x;\n  read r[0] into i;\n}\n",
         UnknownName,
         1,
-        b"p.gp:3:18: `i` cannot stand here; a data variable was expected\n  read r[0] into i;\n                 ^\nparse 1: the first token that no program goes on with (parse 1 at byte 44)\n",
+        b"p.gp:3:18: `i` cannot stand here; a data variable was expected\n  read r[0] into i;\n                 ^\nparse 1: the first token that no program goes on with (parse 1 at byte 44)\nhint: data stands in a variable with a `$`: `into $x`\n",
     ),
     (
         b"task t(i i) {\n}\n",
         UnknownName,
         1,
-        b"p.gp:1:10: `i` cannot stand here; `)` or `,` was expected\ntask t(i i) {\n         ^\nparse 1: the first token that no program goes on with (parse 1 at byte 9)\n",
+        b"p.gp:1:10: `i` cannot stand here; `)` or `,` was expected\ntask t(i i) {\n         ^\nparse 1: the first token that no program goes on with (parse 1 at byte 9)\nhint: names stand between commas, and without a type\n",
     ),
     (
         b"task main() {\n  var i, $x;\n  fork t(1 2);\n}\n",
@@ -137,13 +137,13 @@ const PARSING: [Case; 17] = [
         b"lock a[2]\ntask main() {\n}\n",
         UnknownName,
         1,
-        b"p.gp:2:1: `task` cannot stand here; `;` was expected\ntask main() {\n^\nparse 1: the first token that no program goes on with (parse 1 at byte 10)\n",
+        b"p.gp:2:1: `task` cannot stand here; `;` was expected\ntask main() {\n^\nparse 1: the first token that no program goes on with (parse 1 at byte 10)\nhint: a `;` is missing at the end of line 1\n",
     ),
     (
         b"task main() {\n  var i, $x;\n  when $x { i = 1; }\n}\n",
         UnknownName,
         1,
-        b"p.gp:3:13: `i` cannot stand here; `}` or a data statement was expected\n  when $x { i = 1; }\n            ^\nparse 1: the first token that no program goes on with (parse 1 at byte 39)\n",
+        b"p.gp:3:13: `i` cannot stand here; `}` or a data statement was expected\n  when $x { i = 1; }\n            ^\nparse 1: the first token that no program goes on with (parse 1 at byte 39)\nhint: the arms of a `when` hold only `$x = e;`, `read`, `write`, `print` and `when`; `settle $x into c;` makes $x a control value, for an `if`\n",
     ),
     (
         b"task main() { print (((((((((((((((((((((((((((((((((((((((((((((((((((((((((((((((((1",
@@ -243,13 +243,13 @@ const FORMS: [Case; 17] = [
         b"task main() {\n  var i, $x;\n  i = f(3);\n}\n",
         UnknownName,
         1,
-        b"p.gp:3:8: `(` cannot stand here; `[`, `;` or an operator was expected\n  i = f(3);\n       ^\nparse 1: the first token that no program goes on with (parse 1 at byte 34)\nhint: a task is called by `fork f(3) into h; join h into $x;`\n",
+        b"p.gp:3:8: `(` cannot stand here; `[`, `;` or an operator was expected\n  i = f(3);\n       ^\nparse 1: the first token that no program goes on with (parse 1 at byte 34)\nhint: there are no functions; a task is called by `fork f(3) into h; join h into $x;`\n",
     ),
     (
         b"task main() {\n  var i, $x;\n  f(3);\n}\n",
         UnknownName,
         1,
-        b"p.gp:3:4: `(` cannot stand here; `=` was expected\n  f(3);\n   ^\nparse 1: the first token that no program goes on with (parse 1 at byte 30)\nhint: a task is called by `fork f(3) into h; join h into $x;`\n",
+        b"p.gp:3:4: `(` cannot stand here; `=` was expected\n  f(3);\n   ^\nparse 1: the first token that no program goes on with (parse 1 at byte 30)\nhint: there are no functions; a task is called by `fork f(3) into h; join h into $x;`\n",
     ),
     (
         b"task main() {\n  var i, $x;\n  $x = r[i] + 1;\n}\n",

@@ -8,4 +8,8 @@ mod files;
 #[cfg(test)]
 mod forms;
 #[cfg(test)]
+mod instead;
+#[cfg(test)]
+mod places;
+#[cfg(test)]
 mod shown;

@@ -1,19 +1,18 @@
 // Why a program breaks a rule of the check.
-ghost use Rattle.std.specs.Prelude.{◌≡◌, ◌<◌, ◌⊎◌, ◌^◌, length, OnOk};
+ghost use Rattle.std.specs.Prelude.{◌≡◌, ◌<◌, ◌⊎◌, ◌^◌, length, IfSome, OnOk};
 ghost use Rattle.text_places.specs.Tokens.{BeginsAt};
 ghost use Rattle.refusal_texts.specs.Refusals.{kind_number, IsCheckRefusal};
 
 use crate::front::{Rule, push_refusal};
 use crate::hints::check_hints;
-use crate::ifs::first_if;
 use crate::messages::push_message;
-use crate::spelling::push_name;
+use crate::subjects::subject_token;
 use gp_base::{Name, Seq};
-use rule_blame::{Blame, Role, Told, blame};
+use rule_blame::{Blame, Told, blame};
 use std::alloc::{AllocError, Global};
-use task_ast::{CheckKind, Program};
+use task_ast::{CheckKind, Program, What};
 use task_parser::Token;
-use text_places::{first_place, name_place};
+use text_places::first_place;
 
 fn kind_number(kind: CheckKind) -> u64
     ensures { result ≡ kind_number kind }
@@ -55,40 +54,6 @@ fn says(kind: CheckKind) -> &'static [u8] {
     }
 }
 
-// Appends the name at which a blame is shown, where it has one.
-fn push_subject(text: &mut Vec<u8>, blame: &Blame<'_>) -> Result<(), AllocError> {
-    match blame {
-        Blame::NoArray { array } | Blame::NotTaken { array, .. } => push_name(
-            text,
-            Role::LockArray,
-            array,
-        ),
-        Blame::Unknown { role, name, .. } => push_name(text, *role, name),
-        Blame::Twice { name, .. } | Blame::NoSize { name } | Blame::TooMany { name, .. } =>
-            push_name(text, Role::Control, name),
-        Blame::VariableTwice { dollar, name, .. } => {
-            let role = if *dollar { Role::Data } else { Role::Control };
-            push_name(text, role, name)
-        }
-        Blame::Return => text.extend_from_slice(b"$ret"),
-        Blame::MainTakes => text.extend_from_slice(b"main"),
-        Blame::Counts { task, .. } | Blame::KeptAtEnd { task, .. } => push_name(
-            text,
-            Role::Task,
-            task,
-        ),
-        Blame::Data { name } => push_name(text, Role::Data, name),
-        Blame::Unguarded { cells, .. } | Blame::Sizes { cells, .. } => push_name(
-            text,
-            Role::Record,
-            cells,
-        ),
-        Blame::TakenTwice { taken } => push_name(text, Role::LockArray, taken.array),
-        Blame::IndexSet { name, .. } => push_name(text, Role::Control, name),
-        Blame::NoMain | Blame::OneBranch { .. } | Blame::OneTurn { .. } => Ok(()),
-    }
-}
-
 // Whether a program has no task `main`: that is shown at the text's first byte.
 fn is_no_main(told: &Option<Told<'_>>) -> bool {
     match told {
@@ -97,20 +62,26 @@ fn is_no_main(told: &Option<Told<'_>>) -> bool {
     }
 }
 
-// Where a blame is shown: at its name, or at the line's first token where that isn't there.
-fn shown_at(
-    program: &[u8],
-    tokens: &[Token],
-    line: u32,
-    subject: &[u8],
-    told: &Option<Told<'_>>,
-) -> u32
+// Where a token stands, if it is one of the line.
+fn place_in(tokens: &[Token], line: u32, number: Option<usize>) -> Option<u32>
+    ensures { IfSome result (BeginsAt tokens.now line) }
+{
+    let token = tokens.get(number?)?;
+    if token.line == line {
+        Some(token.from)
+    } else {
+        None
+    }
+}
+
+// Where a blame is shown: at this token, or at the line's first where that isn't one of it.
+fn shown_at(tokens: &[Token], line: u32, subject: Option<usize>, told: &Option<Told<'_>>) -> u32
     ensures { BeginsAt tokens.now line result ⊎ (result ≡ 0) }
 {
     if is_no_main(told) {
         return 0;
     }
-    if let Some(at) = name_place(program, tokens, line, subject) {
+    if let Some(at) = place_in(tokens, line, subject) {
         return at;
     }
     match first_place(tokens, line) {
@@ -119,36 +90,40 @@ fn shown_at(
     }
 }
 
-// Whether the first `if` of a line has one block alone.
-fn has_one_block(program: &Program, line: u32) -> bool {
-    match first_if(program, line) {
-        Some(found) => found.second.is_empty(),
+// Whether the statement that is told of is an `if` with one block alone.
+fn has_one_block(told: &Told<'_>) -> bool {
+    match told.statement {
+        Some(statement) => match statement.what {
+            What::If(_, _, second) => second.is_empty(),
+            _ => false,
+        },
         None => false,
     }
 }
 
 // The message of a blame, or what can be said without one.
-fn message_of(
-    alloc: Global,
-    program: &Program,
-    told: &Option<Told<'_>>,
-    line: u32,
-) -> Result<Vec<u8>, AllocError> {
+fn message_of(alloc: Global, told: &Option<Told<'_>>) -> Result<Vec<u8>, AllocError> {
     let mut text = Vec::new(alloc);
     match told {
-        Some(told) => push_message(&mut text, &told.blame, has_one_block(program, line))?,
+        Some(told) => push_message(&mut text, &told.blame, has_one_block(told))?,
         None => text.extend_from_slice(b"a rule of the check is broken in this line")?,
     }
     Ok(text)
 }
 
-// The name at which a blame is shown, as it is spelt.
-fn subject_of(alloc: Global, told: &Option<Told<'_>>) -> Result<Vec<u8>, AllocError> {
-    let mut text = Vec::new(alloc);
-    if let Some(told) = told {
-        push_subject(&mut text, &told.blame)?;
+// The token that is told of, by its number, where it is found.
+fn subject_of(
+    alloc: Global,
+    source: (&[u8], &Seq<Token>),
+    program: &Program,
+    told: &Option<Told<'_>>,
+    line: u32,
+) -> Result<Option<usize>, AllocError> {
+    let (bytes, tokens) = source;
+    match told {
+        Some(told) => subject_token(alloc, program, (bytes, tokens.as_slice()), told, line),
+        None => Ok(None),
     }
-    Ok(text)
 }
 
 /// Appends why a program breaks a rule of the check in a line: its name, the place, what is said of that line, the line
@@ -167,10 +142,10 @@ pub fn push_check_refusal(
 {
     let (bytes, tokens) = source;
     let told = blame(alloc, program, kind, line);
-    let message = message_of(alloc, program, &told, line)?;
-    let subject = subject_of(alloc, &told)?;
-    let hints = check_hints(alloc, program, kind, &told, line)?;
-    let at = shown_at(bytes, tokens.as_slice(), line, &subject, &told);
+    let message = message_of(alloc, &told)?;
+    let subject = subject_of(alloc, source, program, &told, line)?;
+    let hints = check_hints(alloc, program, kind, &told)?;
+    let at = shown_at(tokens.as_slice(), line, subject, &told);
     let rule = Rule {
         kind: b"check",
         number: kind_number(kind),

@@ -5,7 +5,7 @@ ghost use Rattle.refusal_texts.specs.Fronts.{rule_text, IsRefusal};
 ghost use Rattle.refusal_texts.specs.Refusals.{IsLexRefusal};
 
 use crate::front::{Rule, push_refusal};
-use crate::hints::lex_hints;
+use crate::lex_hints::lex_hints;
 use crate::pieces::{push_between, push_words};
 use gp_base::Name;
 use std::alloc::{AllocError, Global};

@@ -3,16 +3,20 @@
 
 mod blocks;
 mod checking;
+mod data_names;
 mod files;
+mod foreign;
 mod front;
 mod hints;
-mod ifs;
 mod kinds;
+mod lex_hints;
 mod lexing;
 mod messages;
+mod parse_hints;
 mod parsing;
 mod pieces;
 mod spelling;
+mod subjects;
 
 pub use checking::push_check_refusal;
 pub use files::{FileUse, push_file_refusal, push_long_file};

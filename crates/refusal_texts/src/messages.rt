@@ -80,23 +80,23 @@ fn push_branch(
     first: bool,
     one_block: bool,
 ) -> Result<(), AllocError> {
-    push_taken(text, taken)?;
-    text.extend_from_slice(match (first, one_block) {
-        (true, false) => b" is held after the first block, and not after the second",
-        (false, false) => b" is held after the second block, and not after the first",
-        (true, true) => b" is held after the block, and not where the condition is 0",
-        (false, true) => b" is held where the condition is 0, and not after the block",
-    })
+    let after: &[u8] = match (first, one_block) {
+        (true, false) => b", is held after the first block, and not after the second",
+        (false, false) => b", is held after the second block, and not after the first",
+        (true, true) => b", is held after the block, and not where the condition is 0",
+        (false, true) => b", is held where the condition is 0, and not after the block",
+    };
+    push_lock(text, b"", taken, b", taken in line ", after)
 }
 
 // Appends at which end of a block a lock is held.
 fn push_turn(text: &mut Vec<u8>, taken: &Taken<'_>, before: bool) -> Result<(), AllocError> {
-    push_taken(text, taken)?;
-    if before {
-        text.extend_from_slice(b" is held at the beginning of the block, and not at its end")
+    let after: &[u8] = if before {
+        b", is held at the beginning of the block, and not at its end"
     } else {
-        text.extend_from_slice(b" is held at the end of the block, and not at its beginning")
-    }
+        b", is held at the end of the block, and not at its beginning"
+    };
+    push_lock(text, b"", taken, b", taken in line ", after)
 }
 
 // Appends what is said of locks, in a line whose first `if` has one block alone, or not.

@@ -8,12 +8,12 @@ ghost use Rattle.refusal_texts.specs.Fronts.{rule_text, IsRefusal};
 ghost use Rattle.refusal_texts.specs.Refusals.{IsParseRefusal};
 
 use crate::front::{Rule, push_refusal};
-use crate::hints::parse_hints;
 use crate::kinds::push_expected;
+use crate::parse_hints::parse_hints;
 use gp_base::{Name, Seq};
 use std::alloc::{AllocError, Global};
 use task_parser::{Kind, ParseFault, Token};
-use text_places::{expected, parse_place, push_shown};
+use text_places::{bytes_of, expected, parse_place, push_shown};
 
 /// What the first rule of parsing says.
 pub const NO_PROGRAM: &[u8] = b"the first token that no program goes on with";
@@ -25,14 +25,9 @@ pub const DEEP: &[u8] = b"the token that would be the 65th level of nesting";
 pub const LONGEST_TOKEN: usize = 40;
 
 /// The bytes of a token, as many as are told, or none where they are no part of the text.
-pub fn bytes_of<'a>(program: &'a [u8], token: &Token) -> &'a [u8] {
-    let (from, to) = (token.from as usize, token.to as usize);
-    if from <= to && to <= program.len() {
-        let bytes = &program[from..to];
-        &bytes[..bytes.len().min(LONGEST_TOKEN)]
-    } else {
-        &[]
-    }
+pub fn told_bytes<'a>(program: &'a [u8], token: &Token) -> &'a [u8] {
+    let bytes = bytes_of(program, token);
+    &bytes[..bytes.len().min(LONGEST_TOKEN)]
 }
 
 /// The number of the token that begins at a place, or how many there are where none does.
@@ -57,7 +52,7 @@ fn token_message(
     match tokens.get(token_number(tokens, at)) {
         Some(token) => {
             text.extend_from_slice(b"`")?;
-            push_shown(&mut text, bytes_of(program, token))?;
+            push_shown(&mut text, told_bytes(program, token))?;
             text.extend_from_slice(b"` cannot stand here")?;
         }
         None => text.extend_from_slice(b"the text ends here")?,

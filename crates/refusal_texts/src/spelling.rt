@@ -1,5 +1,6 @@
 // How kinds of tokens and names are spelt.
 
+use crate::foreign::are_alike;
 use crate::pieces::{push_number, push_words};
 use gp_base::Name;
 use rule_blame::{Role, Taken};
@@ -24,6 +25,17 @@ fn text_in<'a>(table: &[&'a [u8]], row: usize) -> &'a [u8] {
         Some(text) => text,
         None => b"",
     }
+}
+
+/// Whether a word is one of the language once its letters are in lower case, and not before.
+pub fn is_word(word: &[u8]) -> bool {
+    let words: [&[u8]; 25] = WORDS;
+    for other in &words {
+        if are_alike(other, word) && **other != *word {
+            return true;
+        }
+    }
+    false
 }
 
 /// Appends what a kind of token is called.

@@ -3,7 +3,7 @@
 use crate::held::Taken;
 use crate::uses::Role;
 use gp_base::Name;
-use task_ast::Atom;
+use task_ast::{Atom, What};
 
 /// What there may be too many of.
 #[derive(Clone, Copy, Debug, PartialEq, Eq)]
@@ -111,9 +111,17 @@ pub enum Blame<'a> {
     },
 }
 
-/// A blame, and the locks that are held before the statement that it is about; none where it is about no statement.
+/// A statement, and how many stand before it in the text, in all tasks.
+#[derive(Clone, Copy)]
+pub struct Numbered<'a> {
+    pub number: u32,
+    pub what: &'a What,
+}
+
+/// A blame, the statement that it is about, and the locks that are held before that; none where it is about no statement.
 #[derive(Drop)]
 pub struct Told<'a> {
     pub blame: Blame<'a>,
+    pub statement: Option<Numbered<'a>>,
     pub held: Vec<Taken<'a>>,
 }

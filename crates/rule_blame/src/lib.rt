@@ -13,7 +13,7 @@ mod tasks;
 mod top;
 mod uses;
 
-pub use blames::{Blame, Many, Told};
+pub use blames::{Blame, Many, Numbered, Told};
 pub use held::Taken;
 pub use top::blame;
-pub use uses::Role;
+pub use uses::{Role, Use, push_uses};

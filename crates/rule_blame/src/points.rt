@@ -9,7 +9,7 @@ ghost use Rattle.rule_blame.specs.Views.{scope_of, pair_of, pairs_of};
 ghost use Rattle.rule_blame.specs.Told.{Walks};
 ghost use Rattle.rule_blame.specs.Walked.{HasWalked};
 
-use crate::blames::Blame;
+use crate::blames::{Blame, Numbered};
 use crate::held::{Taken, missing, without};
 use crate::scope::Scope;
 use crate::statements::statement_blame;
@@ -22,6 +22,42 @@ pub struct Walk<'a> {
     pub scope: Scope<'a>,
     pub kind: CheckKind,
     pub line: u32,
+}
+
+/// How many statements a walk has come to, in the order of the text, and the one that it told of.
+#[derive(Clone, Copy)]
+pub struct Passed<'a> {
+    count: u32,
+    told: Option<Numbered<'a>>,
+}
+
+impl<'a> Passed<'a> {
+    /// No statement was come to.
+    pub fn new() -> Passed<'a> {
+        Passed {
+            count: 0,
+            told: None,
+        }
+    }
+
+    /// The statement that was told of.
+    pub fn told(&self) -> Option<Numbered<'a>> {
+        self.told
+    }
+
+    // The next statement.
+    fn next(&mut self, what: &'a What) -> Numbered<'a> {
+        let number = self.count;
+        self.count = number.saturating_add(1);
+        Numbered { number, what }
+    }
+
+    // This statement is told of, if none in its blocks is.
+    fn tell(&mut self, statement: Numbered<'a>) {
+        if self.told.is_none() {
+            self.told = Some(statement);
+        }
+    }
 }
 
 // A pair that is held in the one place and not in the other, and whether that one is the first.
@@ -139,12 +175,13 @@ pub fn walk_block<'a>(
     walk: Walk<'a>,
     block: &'a [Stmt],
     held: &mut Vec<Taken<'a>>,
+    passed: &mut Passed<'a>,
 ) -> Result<Option<Blame<'a>>, AllocError>
     ensures { IfOk result (Walks (scope_of walk.entry.scope) walk.entry.line (points_in (plain_block block.now) (pairs_of held.old.items))
         (pairs_of held.new.items) (held_at_end (plain_block block.now) (pairs_of held.old.items))) }
 {
     for s in block {
-        if let Some(told) = walk_statement(alloc, walk, s, held)? {
+        if let Some(told) = walk_statement(alloc, walk, s, held, passed)? {
             return Ok(Some(told));
         }
     }
@@ -158,11 +195,12 @@ fn walk_aside<'a>(
     walk: Walk<'a>,
     block: &'a [Stmt],
     held: &[Taken<'a>],
+    passed: &mut Passed<'a>,
 ) -> Result<Walked<'a>, AllocError>
     ensures { IfOk result (HasWalked (scope_of walk.entry.scope) walk.entry.line (plain_block block.now) (pairs_of held.now)) }
 {
     let mut inside = Vec::from_slice(alloc, held)?;
-    let found = walk_block(alloc, walk, block, &mut inside)?;
+    let found = walk_block(alloc, walk, block, &mut inside, passed)?;
     Ok(Walked {
         found,
         held: inside,
@@ -176,16 +214,23 @@ fn walk_statement<'a>(
     walk: Walk<'a>,
     s: &'a Stmt,
     held: &mut Vec<Taken<'a>>,
+    passed: &mut Passed<'a>,
 ) -> Result<Option<Blame<'a>>, AllocError>
     ensures { IfOk result (Walks (scope_of walk.entry.scope) walk.entry.line (points_of (plain_stmt s.now) (pairs_of held.old.items))
         (pairs_of held.new.items) (held_after (plain_stmt s.now) (pairs_of held.old.items))) }
 {
+    let statement = passed.next(&s.what);
     if s.line == walk.line {
         if let Some(told) = statement_blame(alloc, walk.scope, walk.kind, &s.what, held)? {
+            passed.tell(statement);
             return Ok(Some(told));
         }
     }
-    walk_inside(alloc, walk, s, held)
+    let found = walk_inside(alloc, walk, s, held, passed)?;
+    if found.is_some() {
+        passed.tell(statement);
+    }
+    Ok(found)
 }
 
 // The same for the blocks of a statement and its end.
@@ -196,23 +241,24 @@ fn walk_inside<'a>(
     walk: Walk<'a>,
     s: &'a Stmt,
     held: &mut Vec<Taken<'a>>,
+    passed: &mut Passed<'a>,
 ) -> Result<Option<Blame<'a>>, AllocError>
     ensures { IfOk result (Walks (scope_of walk.entry.scope) walk.entry.line (points_of (plain_stmt s.now) (pairs_of held.old.items))
         (pairs_of held.new.items) (held_after (plain_stmt s.now) (pairs_of held.old.items))) }
 {
     match &s.what {
         What::While(_, body) => {
-            let inside = walk_aside(alloc, walk, body.as_slice(), held)?;
+            let inside = walk_aside(alloc, walk, body.as_slice(), held, passed)?;
             Ok(end_loop(walk, s.line, inside, held))
         }
         What::If(_, first, second) => {
-            let first = walk_aside(alloc, walk, first.as_slice(), held)?;
-            let second = walk_aside(alloc, walk, second.as_slice(), held)?;
+            let first = walk_aside(alloc, walk, first.as_slice(), held, passed)?;
+            let second = walk_aside(alloc, walk, second.as_slice(), held, passed)?;
             Ok(end_branches(walk, s.line, first, second, held))
         }
         What::When(_, first, second) => {
-            let first = walk_aside(alloc, walk, first.as_slice(), held)?;
-            let second = walk_aside(alloc, walk, second.as_slice(), held)?;
+            let first = walk_aside(alloc, walk, first.as_slice(), held, passed)?;
+            let second = walk_aside(alloc, walk, second.as_slice(), held, passed)?;
             Ok(end_choice(walk, first, second, held))
         }
         What::Lock(array, index) => {

@@ -10,7 +10,7 @@ ghost use Rattle.rule_blame.specs.Views.{scope_of, pairs_of, used_in, point_at};
 use crate::blames::Blame;
 use crate::held::{Taken, find, find_index};
 use crate::scope::{Scope, array_over, is_declared, task_named};
-use crate::uses::{Role, Use, push_all};
+use crate::uses::{Role, Use, push_uses};
 use gp_base::Name;
 use std::alloc::{AllocError, Global};
 use task_ast::{Atom, CheckKind, What};
@@ -55,7 +55,7 @@ fn name_blame<'a>(
     ensures { IfOk result (λ found. (line : ℕ) (held : List Pair) → IfSome found (IsTrueOf (scope_of scope.entry) (point_at line what.now held))) }
 {
     let mut uses = Vec::new(alloc);
-    push_all(&mut uses, scope.program, what)?;
+    push_uses(&mut uses, scope.program, what)?;
     if unknown {
         Ok(first_unknown(scope, &uses))
     } else {

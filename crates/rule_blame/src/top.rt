@@ -6,7 +6,7 @@ ghost use Rattle.rule_blame.specs.Blames.{IsTrue};
 use crate::blames::{Blame, Told};
 use crate::heads::head_blame;
 use crate::held::first;
-use crate::points::{Walk, walk_block};
+use crate::points::{Passed, Walk, walk_block};
 use crate::scope::Scope;
 use crate::tasks::{no_main, task_blame};
 use std::alloc::{AllocError, Global};
@@ -19,14 +19,19 @@ fn body_blame<'a>(
     task: &'a TaskText,
     kind: CheckKind,
     line: u32,
+    passed: &mut Passed<'a>,
 ) -> Result<Option<Told<'a>>, AllocError>
     ensures { IfOk result (λ found. Contains program.now.tasks task.now → IfSome found (λ told. IsTrue (plain_program program.now) line told.blame)) }
 {
     let mut held = Vec::new(alloc);
     let scope = Scope { program, task };
     let walk = Walk { scope, kind, line };
-    if let Some(blame) = walk_block(alloc, walk, task.body.as_slice(), &mut held)? {
-        return Ok(Some(Told { blame, held }));
+    if let Some(blame) = walk_block(alloc, walk, task.body.as_slice(), &mut held, passed)? {
+        return Ok(Some(Told {
+            blame,
+            statement: passed.told(),
+            held,
+        }));
     }
     if kind != CheckKind::HeldAtEnd || task.line != line {
         return Ok(None);
@@ -37,6 +42,7 @@ fn body_blame<'a>(
                 taken,
                 task: &task.name,
             },
+            statement: None,
             held,
         })),
         None => Ok(None),
@@ -52,8 +58,9 @@ fn bodies_blame<'a>(
 ) -> Result<Option<Told<'a>>, AllocError>
     ensures { IfOk result (λ found. IfSome found (λ told. IsTrue (plain_program program.now) line told.blame)) }
 {
+    let mut passed = Passed::new();
     for task in program.tasks.as_slice() {
-        if let Some(told) = body_blame(alloc, program, task, kind, line)? {
+        if let Some(told) = body_blame(alloc, program, task, kind, line, &mut passed)? {
             return Ok(Some(told));
         }
     }
@@ -92,6 +99,7 @@ fn any_blame<'a>(
     match outer_blame(alloc, program, kind, line)? {
         Some(blame) => Ok(Some(Told {
             blame,
+            statement: None,
             held: Vec::new(alloc),
         })),
         None => bodies_blame(alloc, program, kind, line),

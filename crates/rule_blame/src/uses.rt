@@ -175,7 +175,7 @@ fn push_cell<'a>(
 
 /// Appends the names of a statement, but for those in its blocks.
 #[tactic(auto, using(task_ast::proofs::Views::view, crate::proofs::Appends::appends))]
-pub fn push_all<'a>(
+pub fn push_uses<'a>(
     uses: &mut Vec<Use<'a>>,
     program: &Program,
     what: &'a What,

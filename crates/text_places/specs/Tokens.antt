@@ -12,11 +12,3 @@ pub record BeginsAt (tokens : List Token) (line at : ℕ) : Type 0 where
   pub stands : Contains tokens token
   pub in_line : token.line ≡ line
   pub begins : token.from ≡ at
-
--- a token of the line, which has these bytes, begins at the place
-pub record SpellsAt (text : List ℕ) (tokens : List Token) (line : ℕ) (spelled : List ℕ) (at : ℕ) : Type 0 where
-  pub token : Token
-  pub stands : Contains tokens token
-  pub in_line : token.line ≡ line
-  pub spells : bytes_of text token ≡ spelled
-  pub begins : token.from ≡ at

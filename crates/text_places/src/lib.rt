@@ -1,5 +1,5 @@
 //! Places in the text of a program: the line and the column of a byte, the line that is shown with a mark under that
-//! byte, where a fault of lexing or of parsing stands, where a name stands in a line, and which tokens could stand where
+//! byte, where a fault of lexing or of parsing stands, where a line begins, and which tokens could stand where
 //! a program can't go on.
 #![tactic(auto)]
 
@@ -12,5 +12,5 @@ mod place;
 pub use faults::{is_quoted_at, lex_place, parse_place};
 pub use going::expected;
 pub use lines::{push_marked, push_shown};
-pub use names::{first_place, name_place};
-pub use place::{Place, place_of};
+pub use names::{bytes_of, first_place};
+pub use place::{Place, line_before, place_of};

@@ -1,6 +1,3 @@
-use Rattle.std.proofs.Common.{ℕ, subst}
-use Rattle.std.specs.Prelude.{codes}
-use Rattle.refusal_texts.specs.Fronts.{rule_text, IsRefusal}
 use Rattle.refusal_texts.proofs.checking.push_check_refusal.Goals as goal
 
 pub returns : goal.returns

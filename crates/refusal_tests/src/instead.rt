@@ -1,0 +1,261 @@
+// What to write instead, told in the last line of a refusal.
+use crate::shown::told;
+use std::alloc::{AllocError, Global};
+use std::test::Fail;
+use task_ast::CheckKind::UnknownName;
+
+// A statement, or a beginning of a program, and its hint.
+type Case = (&'static [u8], &'static [u8]);
+
+// What stands before the statement, whose line is the ninth.
+const BEFORE: &[u8] =
+    b"lock bank[4];\nrecord acct[4] by bank;\nfeed moves[2] from \"moves.csv\";\nbarrier step(2);\ntask t(n) {\n}\ntask main() {\n  var i, j, $x;\n";
+
+const STATEMENTS: [Case; 68] = [
+    (
+        b"i = moves.rows;",
+        b"no name has fields: `rows(f)` is the number of rows of feed f",
+    ),
+    (
+        b"i = a.b;",
+        b"no name has fields: a cell of a feed is `f[i, 0]`, and one of a record is read by `read r[i] into $x;`",
+    ),
+    (b"bank.lock(i);", b"write `lock l[i]; .. unlock l[i];`"),
+    (
+        b"for i in 0..3 { }",
+        b"there are no ranges: write `i = 0; while i < n { .. i = i + 1; }`",
+    ),
+    (b"while i < 3:", b"a block stands between `{` and `}`"),
+    (b"i := 3;", b"write `i = 3;`"),
+    (
+        b"i = j > 2 ? 1 : 0;",
+        b"write `if e { .. } else { .. }`, or for data `when e { .. } else { .. }`",
+    ),
+    (b"i = j ^ 2;", b"there is no power: write `a * a`"),
+    (b"i = ~j;", b"`not e` is 1 where e is 0, and else 0"),
+    (
+        b"lock bank(i);",
+        b"a size and an index stand between `[` and `]`",
+    ),
+    (b"i = moves(i, 0);", b"a cell of a feed is `moves[i, 0]`"),
+    (
+        b"i = min(i, j);",
+        b"`a + (b - a) * (b < a)` is the lesser of two",
+    ),
+    (
+        b"i = len(moves);",
+        b"`rows(f)` is the number of rows of feed f",
+    ),
+    (b"i = rows;", b"`rows(f)` is the number of rows of feed f"),
+    (
+        b"i = sum(j);",
+        b"there are no functions; a task is called by `fork f(3) into h; join h into $x;`",
+    ),
+    (
+        b"print(i, j);",
+        b"no parentheses around several values: write `print e, g;`",
+    ),
+    (b"println(i);", b"write `print e, g;`"),
+    (b"barrier step();", b"no parentheses: write `barrier b;`"),
+    (b"lock(bank[i]);", b"no parentheses: write `lock l[i];`"),
+    (b"i = read acct[i];", b"write `read r[i] into $x;`"),
+    (b"read $x from acct[i];", b"write `read r[i] into $x;`"),
+    (b"write acct[i], 5;", b"write `write r[i] = e;`"),
+    (b"i, j = 1, 2;", b"a statement sets one variable"),
+    (
+        b"acct[i] = 3;",
+        b"a cell of a record is written by `write r[i] = e;`",
+    ),
+    (
+        b"read acct[i, j] into $x;",
+        b"a lock and a cell of a record have one index: `k = 10 * i + j; read r[k] into $x;`",
+    ),
+    (
+        b"lock bank[i][j];",
+        b"a lock and a cell of a record have one index: `k = 10 * i + j; read r[k] into $x;`",
+    ),
+    (
+        b"lock bank[self];",
+        b"an index here is a number or a control variable: `k = i + 1; lock l[k];`",
+    ),
+    (
+        b"lock bank[moves[i, 0]];",
+        b"an index here is a number or a control variable: `k = i + 1; lock l[k];`",
+    ),
+    (b"barrier step[2];", b"write `barrier b;`"),
+    (
+        b"fork t(1) into $x;",
+        b"control variables, arrays, barriers and tasks are named without a `$`",
+    ),
+    (
+        b"let k = 3;",
+        b"write `var x;` before the first statement of the task, and then `x = 3;`",
+    ),
+    (
+        b"int k;",
+        b"write `var x;` before the first statement of the task, and then `x = 3;`",
+    ),
+    (b"spawn t(1);", b"`fork t(e) into h;` starts a thread"),
+    (
+        b"await i;",
+        b"`join h into $x;` waits for a thread, `barrier b;` for several",
+    ),
+    (b"if i { } elif j { }", b"write `else { if e { .. } }`"),
+    (b"if i { } elsif (j) { }", b"write `else { if e { .. } }`"),
+    (
+        b"foreach i in moves { }",
+        b"write `i = 0; while i < n { .. i = i + 1; }`",
+    ),
+    (b"switch (i) { }", b"write `if e { .. } else { .. }`"),
+    (
+        b"def f() { }",
+        b"write `task t(x) { .. }`, outside of other tasks",
+    ),
+    (
+        b"exit;",
+        b"`exit` is no word of the language; a variable is set by `exit = e;`",
+    ),
+    (
+        b"WHILE i < 3 { }",
+        b"`WHILE` is no word of the language: those are in lower case",
+    ),
+    (b"if i < 3 then { }", b"a block stands between `{` and `}`"),
+    (b"if i < 3 print i;", b"a block stands between `{` and `}`"),
+    (b"i = j mod 2;", b"write `a % b`"),
+    (b"++i;", b"write `i = i + 1;`"),
+    (b"i = j ** 2;", b"there is no power: write `a * a`"),
+    (b"i == 3;", b"`=` sets, and `==` compares"),
+    (
+        b"if i === 3 { }",
+        b"`==` and `!=` are all there is to compare for equality",
+    ),
+    (b"if i => 3 { }", b"write `<=` or `>=`"),
+    (
+        b"i = \"abc\";",
+        b"a text in quotes is the name of a file alone, behind `from`",
+    ),
+    (
+        b"rows = 3;",
+        b"`rows` is a word of the language: take another name",
+    ),
+    (
+        b"lock = 3;",
+        b"`lock` is a word of the language: take another name",
+    ),
+    (
+        b"i = from + 1;",
+        b"`from` is a word of the language: take another name",
+    ),
+    (
+        b"i = 1; var k;",
+        b"all `var` lines stand before the first statement of the task",
+    ),
+    (b"record r[4] by bank;", b"heads stand before all tasks"),
+    (
+        b"else { }",
+        b"an `else` follows the block of its `if` or `when` directly",
+    ),
+    (b"while i { };", b"no `;` stands behind a block"),
+    (b"if (i < 3 { }", b"a `(` is not closed"),
+    (b"if i { print i }", b"a statement ends with `;`"),
+    (
+        b"i = null;",
+        b"every value is a number: `0`, or one that is nowhere else used, stands for none",
+    ),
+    (b"$x = False;", b"`1` and `0` stand for true and false"),
+    (
+        b"i = k;",
+        b"`var k;` before the first statement of the task declares it",
+    ),
+    (b"i = moves;", b"moves is a feed"),
+    (b"barrier t;", b"t is a task"),
+    (b"fork step();", b"step is a barrier"),
+    (b"start += 1;", b"write `i = i + 1;`"),
+    (
+        b"return -1;",
+        b"write `$ret = 3;` as the last statement; the others go into an `if`",
+    ),
+    (b"if i { end", b"a block ends with `}`"),
+];
+
+const TOPS: [Case; 14] = [
+    (
+        b"record lock[4] by l;",
+        b"`lock` is a word of the language: take another name",
+    ),
+    (
+        b"task main(rows) { }",
+        b"`rows` is a word of the language: take another name",
+    ),
+    (b"lock l;", b"a size and an index stand between `[` and `]`"),
+    (
+        b"record r[4] under l;",
+        b"a record stands under the lock array that guards it: `record r[4] by l;`",
+    ),
+    (b"lock l[n];", b"a size stands as a number in the text"),
+    (
+        b"feed f[2] from x;",
+        b"the name of a file stands in double quotes",
+    ),
+    (
+        b"feed f[2] from x.csv;",
+        b"the name of a file stands in double quotes",
+    ),
+    (b"barrier b[3];", b"write `barrier b(3);`"),
+    (b"task main { }", b"write `task t() { .. }`"),
+    (
+        b"task t(int x) { }",
+        b"names stand between commas, and without a type",
+    ),
+    (
+        b"Task main() { }",
+        b"`Task` is no word of the language: those are in lower case",
+    ),
+    (
+        b"func f() { }",
+        b"write `task t(x) { .. }`, outside of other tasks",
+    ),
+    (
+        b"print 3;",
+        b"a program is heads (`lock`, `record`, `feed`, `barrier`) and then tasks; statements stand in a task: `task main() { .. }`",
+    ),
+    (
+        b"task main() { } lock l[3];",
+        b"heads stand before all tasks",
+    ),
+];
+
+// Whether a text ends with this hint, in a line of its own.
+fn ends_with_hint(alloc: Global, text: &[u8], hint: &[u8]) -> Result<bool, AllocError> {
+    let mut last = Vec::from_slice(alloc, b"\nhint: ")?;
+    last.extend_from_slice(hint)?;
+    last.extend_from_slice(b"\n")?;
+    Ok(text.ends_with(&last))
+}
+
+#[test]
+fn statements_in_other_words(rt: HostRuntime) -> Result<(), Fail> {
+    let alloc = rt.alloc();
+    for (statement, hint) in &STATEMENTS {
+        let mut program = Vec::from_slice(alloc, BEFORE)?;
+        program.extend_from_slice(statement)?;
+        program.extend_from_slice(b"\n}\n")?;
+        let text = told(alloc, &program, UnknownName, 9)?;
+        if !ends_with_hint(alloc, &text, hint)? {
+            assert_eq!(rt; text.as_slice(), *hint);
+        }
+    }
+    Ok(())
+}
+
+#[test]
+fn heads_in_other_words(rt: HostRuntime) -> Result<(), Fail> {
+    let alloc = rt.alloc();
+    for (program, hint) in &TOPS {
+        let text = told(alloc, program, UnknownName, 1)?;
+        if !ends_with_hint(alloc, &text, hint)? {
+            assert_eq!(rt; text.as_slice(), *hint);
+        }
+    }
+    Ok(())
+}

@@ -1,0 +1,210 @@
+// Words and marks of other languages, and what is written in their place here.
+
+// A word, and what is written in its place.
+type Row = (&'static [u8], &'static [u8]);
+
+const LOOP: &[u8] = b"write `i = 0; while i < n { .. i = i + 1; }`";
+
+const ELSE_IF: &[u8] = b"write `else { if e { .. } }`";
+
+const DECLARED: &[u8] = b"write `var x;` before the first statement of the task, and then `x = 3;`";
+
+const STARTED: &[u8] = b"`fork t(e) into h;` starts a thread";
+
+const JOINED: &[u8] = b"`join h into $x;` waits for a thread, `barrier b;` for several";
+
+const LOCKED: &[u8] = b"write `lock l[i]; .. unlock l[i];`";
+
+const TASK: &[u8] = b"write `task t(x) { .. }`, outside of other tasks";
+
+const PRINTED: &[u8] = b"write `print e, g;`";
+
+const CHOICE: &[u8] = b"write `if e { .. } else { .. }`";
+
+const LEFT: &[u8] = b"the condition of the `while` tests a variable that is set";
+
+const RESULT: &[u8] = b"write `$ret = 3;` as the last statement; the others go into an `if`";
+
+/// What is told where a block does not begin as it has to.
+pub const BLOCK: &[u8] = b"a block stands between `{` and `}`";
+
+const CLOSED: &[u8] = b"a block ends with `}`";
+
+// Words that begin what is a statement in other languages.
+const BEGINNINGS: [Row; 54] = [
+    (b"for", LOOP),
+    (b"foreach", LOOP),
+    (b"loop", LOOP),
+    (b"repeat", LOOP),
+    (b"do", LOOP),
+    (b"until", LOOP),
+    (b"elif", ELSE_IF),
+    (b"elsif", ELSE_IF),
+    (b"elseif", ELSE_IF),
+    (b"let", DECLARED),
+    (b"int", DECLARED),
+    (b"long", DECLARED),
+    (b"float", DECLARED),
+    (b"double", DECLARED),
+    (b"bool", DECLARED),
+    (b"string", DECLARED),
+    (b"const", DECLARED),
+    (b"auto", DECLARED),
+    (b"set", DECLARED),
+    (b"spawn", STARTED),
+    (b"start", STARTED),
+    (b"thread", STARTED),
+    (b"async", STARTED),
+    (b"go", STARTED),
+    (b"parallel", STARTED),
+    (b"await", JOINED),
+    (b"wait", JOINED),
+    (b"sync", JOINED),
+    (b"acquire", LOCKED),
+    (b"release", LOCKED),
+    (b"mutex", LOCKED),
+    (b"synchronized", LOCKED),
+    (b"func", TASK),
+    (b"def", TASK),
+    (b"fn", TASK),
+    (b"function", TASK),
+    (b"proc", TASK),
+    (b"void", TASK),
+    (b"printf", PRINTED),
+    (b"println", PRINTED),
+    (b"echo", PRINTED),
+    (b"puts", PRINTED),
+    (b"output", PRINTED),
+    (b"switch", CHOICE),
+    (b"case", CHOICE),
+    (b"break", LEFT),
+    (b"continue", LEFT),
+    (b"return", RESULT),
+    (b"begin", BLOCK),
+    (b"end", CLOSED),
+    (b"endif", CLOSED),
+    (b"endwhile", CLOSED),
+    (b"fi", CLOSED),
+    (b"done", CLOSED),
+];
+
+// Words that stand between the parts of an expression, or name functions, in other languages.
+const OPERATORS: [Row; 10] = [
+    (b"mod", b"write `a % b`"),
+    (b"div", b"write `a / b`"),
+    (b"xor", b"write `(a == 0) != (b == 0)`"),
+    (b"is", b"write `a == b`"),
+    (b"then", BLOCK),
+    (b"do", BLOCK),
+    (b"begin", BLOCK),
+    (b"end", CLOSED),
+    (b"endif", CLOSED),
+    (b"int", b"all values are whole numbers: write `var x;`"),
+];
+
+const LEAST: &[u8] = b"`a + (b - a) * (b < a)` is the lesser of two";
+
+const GREATEST: &[u8] = b"`a + (b - a) * (b > a)` is the greater of two";
+
+const ROWS: &[u8] = b"`rows(f)` is the number of rows of feed f";
+
+// Names of functions.
+const FUNCTIONS: [Row; 8] = [
+    (b"min", LEAST),
+    (b"max", GREATEST),
+    (
+        b"abs",
+        b"`a - 2 * a * (a < 0)` is the amount without its sign",
+    ),
+    (b"len", ROWS),
+    (b"length", ROWS),
+    (b"count", ROWS),
+    (b"size", ROWS),
+    (b"nrows", ROWS),
+];
+
+/// Whether two words are alike but for the case of their letters.
+pub fn are_alike(one: &[u8], other: &[u8]) -> bool {
+    one.len() == other.len()
+        && one
+            .iter()
+            .zip(other)
+            .all(|(a, b)| a.to_ascii_lowercase() == b.to_ascii_lowercase())
+}
+
+// What is told of a word in a table.
+fn told_in(table: &[Row], word: &[u8]) -> Option<&'static [u8]> {
+    for (other, told) in table {
+        if are_alike(other, word) {
+            return Some(told);
+        }
+    }
+    None
+}
+
+/// What is written in place of a statement that begins with this word.
+pub fn beginning(word: &[u8]) -> Option<&'static [u8]> {
+    let table: [Row; 54] = BEGINNINGS;
+    told_in(&table, word)
+}
+
+/// What is written in place of this word where an operator or the end of an expression could stand.
+pub fn operator(word: &[u8]) -> Option<&'static [u8]> {
+    let table: [Row; 10] = OPERATORS;
+    told_in(&table, word)
+}
+
+/// What is written in place of a function of this name.
+pub fn function(word: &[u8]) -> Option<&'static [u8]> {
+    let table: [Row; 8] = FUNCTIONS;
+    told_in(&table, word)
+}
+
+/// What is written in place of a name that stands for a value in other languages.
+pub fn value(word: &[u8]) -> Option<&'static [u8]> {
+    let table: [Row; 5] = [
+        (b"true", b"`1` and `0` stand for true and false"),
+        (b"false", b"`1` and `0` stand for true and false"),
+        (
+            b"null",
+            b"every value is a number: `0`, or one that is nowhere else used, stands for none",
+        ),
+        (
+            b"nil",
+            b"every value is a number: `0`, or one that is nowhere else used, stands for none",
+        ),
+        (
+            b"none",
+            b"every value is a number: `0`, or one that is nowhere else used, stands for none",
+        ),
+    ];
+    told_in(&table, word)
+}
+
+/// What is written in place of the form that the word of a statement has with parentheses in other languages.
+pub fn without_parentheses(word: &[u8]) -> Option<&'static [u8]> {
+    let table: [Row; 7] = [
+        (b"lock", b"no parentheses: write `lock l[i];`"),
+        (b"unlock", b"no parentheses: write `unlock l[i];`"),
+        (b"barrier", b"no parentheses: write `barrier b;`"),
+        (
+            b"fork",
+            b"no parentheses around the task: write `fork t(e) into h;`",
+        ),
+        (b"settle", b"no parentheses: write `settle $x into c;`"),
+        (b"read", b"no parentheses: write `read r[i] into $x;`"),
+        (b"write", b"no parentheses: write `write r[i] = e;`"),
+    ];
+    told_in(&table, word)
+}
+
+/// How a statement is written that gives a value, and stands where an expression is expected.
+pub fn giving(word: &[u8]) -> Option<&'static [u8]> {
+    let table: [Row; 4] = [
+        (b"read", b"write `read r[i] into $x;`"),
+        (b"fork", b"write `fork t(e) into h;`"),
+        (b"join", b"write `join h into $x;`"),
+        (b"settle", b"write `settle $x into c;`"),
+    ];
+    told_in(&table, word)
+}

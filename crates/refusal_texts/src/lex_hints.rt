@@ -1,0 +1,112 @@
+// What to write in place of a byte that can't stand where it does.
+
+use crate::hints::{COMMENT, hint_line};
+use std::alloc::{AllocError, Global};
+use text_places::{is_quoted_at, line_before};
+
+const CENTS: &[u8] = b"numbers are whole: write amounts in cents";
+
+const ROWS: &[u8] = b"no name has fields: `rows(f)` is the number of rows of feed f";
+
+const FIELDS: &[u8] =
+    b"no name has fields: a cell of a feed is `f[i, 0]`, and one of a record is read by `read r[i] into $x;`";
+
+// Whether the bytes before a place in its line have two slashes, or a slash and a star, in a row.
+fn is_after_slashes(program: &[u8], at: usize) -> bool {
+    let mut from = at.min(program.len());
+    while from > 1 && program[from - 1] != b'\n' {
+        if program[from - 2] == b'/' && (program[from - 1] == b'/' || program[from - 1] == b'*') {
+            return true;
+        }
+        from -= 1;
+    }
+    false
+}
+
+fn is_digit(byte: Option<&u8>) -> bool {
+    matches!(byte, Some(byte) if byte.is_ascii_digit())
+}
+
+fn is_letter(byte: Option<&u8>) -> bool {
+    matches!(byte, Some(byte) if byte.is_ascii_alphabetic() || *byte == b'_')
+}
+
+// Whether a word stands at the front.
+fn begins_with(rest: &[u8], words: &[&[u8]]) -> bool {
+    for word in words {
+        if rest.starts_with(word) {
+            return true;
+        }
+    }
+    false
+}
+
+// Whether the line has the word `from` before these last bytes of it.
+fn names_file(line: &[u8]) -> bool {
+    for at in 0..line.len() {
+        if line[at..].starts_with(b" from ") {
+            return true;
+        }
+    }
+    false
+}
+
+// What to write in place of a point.
+fn point_hint(program: &[u8], at: usize) -> &'static [u8] {
+    let rest = &program[at.min(program.len())..];
+    let before = program.get(at.saturating_sub(1));
+    let after = rest.get(1);
+    let locks: [&[u8]; 2] = [b".lock", b".unlock"];
+    let counts: [&[u8]; 5] = [b".rows", b".len", b".size", b".count", b".num"];
+    if names_file(line_before(program, at)) {
+        b"the name of a file stands in double quotes"
+    } else if before == Some(&b'.') || after == Some(&b'.') {
+        b"there are no ranges: write `i = 0; while i < n { .. i = i + 1; }`"
+    } else if is_digit(before) || is_digit(after) {
+        CENTS
+    } else if begins_with(rest, &counts) {
+        ROWS
+    } else if begins_with(rest, &locks) {
+        b"write `lock l[i]; .. unlock l[i];`"
+    } else if is_letter(after) {
+        FIELDS
+    } else {
+        CENTS
+    }
+}
+
+// What to write in place of a byte that can't stand where it is shown.
+fn byte_hint(program: &[u8], at: usize) -> Option<&'static [u8]> {
+    let next = program.get(at.saturating_add(1));
+    match program.get(at)? {
+        b'.' => Some(point_hint(program, at)),
+        b'!' => Some(b"`not e` is what other languages write `!e`, and `!=` is one mark"),
+        b'&' => Some(b"`d and e` is what other languages write `d && e`"),
+        b'|' => Some(b"`d or e` is what other languages write `d || e`"),
+        b'$' => Some(b"the name of a data variable follows its `$` directly"),
+        b'\'' => Some(
+            b"there are numbers alone, and texts in double quotes for the names of files",
+        ),
+        b':' => if next == Some(&b'=') {
+            Some(b"write `i = 3;`")
+        } else {
+            Some(b"a block stands between `{` and `}`")
+        },
+        b'?' => Some(b"write `if e { .. } else { .. }`, or for data `when e { .. } else { .. }`"),
+        b'^' => Some(b"there is no power: write `a * a`"),
+        b'~' => Some(b"`not e` is 1 where e is 0, and else 0"),
+        _ => None,
+    }
+}
+
+/// The hints on a byte that can't stand where it is shown.
+pub fn lex_hints(alloc: Global, program: &[u8], at: usize) -> Result<Vec<u8>, AllocError> {
+    let hint: Option<&[u8]> = if is_after_slashes(program, at) {
+        Some(COMMENT)
+    } else if is_quoted_at(program, at) {
+        Some(b"a text in quotes is the name of a file, and ends in its line")
+    } else {
+        byte_hint(program, at)
+    };
+    hint_line(alloc, hint)
+}

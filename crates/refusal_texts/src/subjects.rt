@@ -1,0 +1,255 @@
+// The token that a blame is about.
+
+use gp_base::Name;
+use rule_blame::{Blame, Numbered, Role, Told, Use, push_uses};
+use std::alloc::{AllocError, Global};
+use task_ast::Program;
+use task_parser::{Kind, Token};
+use text_places::bytes_of;
+
+// What a name is declared as: a head or a task, or a variable of a task; or it is the lock array that a record names.
+#[derive(Clone, Copy, PartialEq, Eq)]
+enum Space {
+    Program,
+    Task,
+    Array,
+}
+
+// A name in a space. `again` asks for one that stands behind another of its space and spelling.
+#[derive(Clone, Copy)]
+struct Wanted<'a> {
+    space: Space,
+    dollar: bool,
+    name: &'a [u8],
+    again: bool,
+}
+
+// What stands around a token: how many blocks are open, whether a list of parameters or of variables is, and the token before.
+#[derive(Clone, Copy)]
+struct Around {
+    blocks: usize,
+    listing: bool,
+    before: Option<Kind>,
+}
+
+fn is_name(kind: Kind) -> bool {
+    matches!(kind, Kind::Name | Kind::Reg)
+}
+
+// A `;`, `{` or `}`.
+fn is_end(kind: Kind) -> bool {
+    matches!(kind, Kind::Mark(4 | 5 | 7))
+}
+
+impl Around {
+    fn new() -> Around {
+        Around {
+            blocks: 0,
+            listing: false,
+            before: None,
+        }
+    }
+
+    // One token more: `(` and `)`, `{` and `}`, `;` and `var` open and close.
+    fn pass(&mut self, kind: Kind) {
+        match kind {
+            Kind::Mark(4) => self.blocks = self.blocks.saturating_add(1),
+            Kind::Mark(5) => self.blocks = self.blocks.saturating_sub(1),
+            Kind::Mark(2) => self.listing = self.blocks == 0,
+            Kind::Word(8) => self.listing = true,
+            Kind::Mark(3 | 7) => self.listing = false,
+            _ => {}
+        }
+        self.before = Some(kind);
+    }
+
+    // Whether a statement begins with this token: `}`, `else` and `var` begin none.
+    fn begins_statement(&self, kind: Kind) -> bool {
+        let is_behind = match self.before {
+            Some(before) => is_end(before),
+            None => false,
+        };
+        self.blocks > 0 && is_behind && !matches!(kind, Kind::Mark(5) | Kind::Word(11 | 8))
+    }
+
+    // Whether this token is a name in the space. `lock`, `barrier`, `record`, `feed` and `task` declare, and `by` names an array.
+    fn is_in(&self, space: Space, kind: Kind) -> bool {
+        let outside = self.blocks == 0 && !self.listing && kind == Kind::Name;
+        match space {
+            Space::Program => outside && matches!(self.before, Some(Kind::Word(0 | 2 | 3 | 6 | 7))),
+            Space::Task => self.listing && is_name(kind),
+            Space::Array => outside && matches!(self.before, Some(Kind::Word(4))),
+        }
+    }
+}
+
+// Whether a token spells the name.
+fn spells(program: &[u8], token: &Token, wanted: Wanted<'_>) -> bool {
+    let bytes = bytes_of(program, token);
+    match bytes {
+        [b'$', name @ ..] => wanted.dollar && *name == *wanted.name,
+        _ => !wanted.dollar && *bytes == *wanted.name,
+    }
+}
+
+// The first token of the line that is the name in its space.
+fn declared(program: &[u8], tokens: &[Token], line: u32, wanted: Wanted<'_>) -> Option<usize> {
+    let mut around = Around::new();
+    let mut seen = false;
+    for (at, token) in tokens.iter().enumerate() {
+        if wanted.space == Space::Task && token.kind == Kind::Word(7) {
+            seen = false;
+        }
+        if around.is_in(wanted.space, token.kind) && spells(program, token, wanted) {
+            if token.line == line && (seen || !wanted.again) {
+                return Some(at);
+            }
+            seen = true;
+        }
+        around.pass(token.kind);
+    }
+    None
+}
+
+// The first token of the statement that so many stand before.
+fn statement_start(tokens: &[Token], number: u32) -> Option<usize> {
+    let mut around = Around::new();
+    let mut passed: u32 = 0;
+    for (at, token) in tokens.iter().enumerate() {
+        if around.begins_statement(token.kind) {
+            if passed == number {
+                return Some(at);
+            }
+            passed = passed.saturating_add(1);
+        }
+        around.pass(token.kind);
+    }
+    None
+}
+
+// The token of a name of the statement that starts at this token, by how many names stand before it there.
+fn name_token(tokens: &[Token], start: usize, number: usize) -> Option<usize> {
+    let mut passed: usize = 0;
+    for (at, token) in tokens.get(start..)?.iter().enumerate() {
+        if is_end(token.kind) {
+            return None;
+        }
+        if is_name(token.kind) {
+            if passed == number {
+                return Some(start.saturating_add(at));
+            }
+            passed = passed.saturating_add(1);
+        }
+    }
+    None
+}
+
+// Whether a blame is about this name of its statement.
+fn is_about(blame: &Blame<'_>, used: &Use<'_>) -> bool {
+    match blame {
+        Blame::Unknown { role, name, .. } => used.role == *role && same(used.name, name),
+        Blame::Data { name } => { used.role == Role::Data && used.decides && same(used.name, name) }
+        Blame::IndexSet { name, .. } => {
+            used.role == Role::Control && !used.decides && same(used.name, name)
+        }
+        _ => true,
+    }
+}
+
+fn same(one: &Name, other: &Name) -> bool {
+    one.as_slice() == other.as_slice()
+}
+
+// The name of its statement that a blame is about, by how many stand before it: what a fork sets stands last.
+fn use_number(
+    alloc: Global,
+    program: &Program,
+    statement: Numbered<'_>,
+    blame: &Blame<'_>,
+) -> Result<Option<usize>, AllocError> {
+    let mut uses = Vec::new(alloc);
+    push_uses(&mut uses, program, statement.what)?;
+    let is_last = matches!(blame, Blame::IndexSet { .. });
+    let mut found = None;
+    for (at, used) in uses.as_slice().iter().enumerate() {
+        if is_about(blame, used) && (is_last || found.is_none()) {
+            found = Some(at);
+        }
+    }
+    Ok(found)
+}
+
+// Whether a blame is about a statement as a whole.
+fn is_whole(blame: &Blame<'_>) -> bool {
+    matches!(blame, Blame::OneBranch { .. } | Blame::OneTurn { .. })
+}
+
+// The declaration that a blame is about.
+fn declaration<'a>(blame: &Blame<'a>) -> Option<Wanted<'a>> {
+    let (space, dollar, name, again) = match blame {
+        Blame::NoArray { array } => (Space::Array, false, array.as_slice(), false),
+        Blame::Twice { name, .. } => (Space::Program, false, name.as_slice(), true),
+        Blame::VariableTwice { dollar, name, .. } => (Space::Task, *dollar, name.as_slice(), true),
+        Blame::Return => (Space::Task, true, b"ret".as_slice(), false),
+        Blame::MainTakes => (Space::Program, false, b"main".as_slice(), false),
+        Blame::NoSize { name } | Blame::TooMany { name, .. } => {
+            (Space::Program, false, name.as_slice(), false)
+        }
+        Blame::KeptAtEnd { task, .. } => (Space::Program, false, task.as_slice(), false),
+        Blame::Sizes { cells, .. } => (Space::Program, false, cells.as_slice(), false),
+        _ => return None,
+    };
+    Some(Wanted {
+        space,
+        dollar,
+        name,
+        again,
+    })
+}
+
+// The token of a statement that a blame is about: a name of it in the line, or its first.
+fn token_of_statement(
+    alloc: Global,
+    program: &Program,
+    tokens: &[Token],
+    blame: &Blame<'_>,
+    statement: Numbered<'_>,
+    line: u32,
+) -> Result<Option<usize>, AllocError> {
+    let Some(start) = statement_start(tokens, statement.number) else {
+        return Ok(None);
+    };
+    if is_whole(blame) {
+        return Ok(Some(start));
+    }
+    let Some(number) = use_number(alloc, program, statement, blame)? else {
+        return Ok(Some(start));
+    };
+    let Some(at) = name_token(tokens, start, number) else {
+        return Ok(Some(start));
+    };
+    match tokens.get(at) {
+        Some(token) if token.line == line => Ok(Some(at)),
+        _ => Ok(Some(start)),
+    }
+}
+
+/// The token that a blame is about in a line, by its number, where it is found. The error is that memory is out.
+pub fn subject_token(
+    alloc: Global,
+    program: &Program,
+    source: (&[u8], &[Token]),
+    told: &Told<'_>,
+    line: u32,
+) -> Result<Option<usize>, AllocError> {
+    let (bytes, tokens) = source;
+    match told.statement {
+        Some(statement) => {
+            token_of_statement(alloc, program, tokens, &told.blame, statement, line)
+        }
+        None => match declaration(&told.blame) {
+            Some(wanted) => Ok(declared(bytes, tokens, line, wanted)),
+            None => Ok(None),
+        },
+    }
+}
