@@ -1,8 +1,6 @@
 // The values of expressions that may name data variables.
-ghost use Rattle.std.specs.Prelude.{◌≡◌, ◌&&◌, false, Some, IfSome, option_map};
-ghost use Rattle.task_ast.specs.meaning.Declarations.{has_data_index, some_member, is_at_data};
-ghost use Rattle.task_ast.specs.meaning.Action.{term, terms};
-ghost use Rattle.task_ast.specs.meaning.Effect.{term_value, terms_value};
+ghost use Rattle.std.specs.Prelude.{◌≡◌, ◌&&◌, Some, IfSome};
+ghost use Rattle.task_ast.specs.meaning.Value.{value, value_on};
 ghost use Rattle.task_ast.specs.View.{plain_expr, plain_links};
 ghost use Rattle.exact_arithmetic.specs.Exact.{stays, stays_on};
 ghost use Rattle.run_counts.specs.Data.{with_data};
@@ -15,7 +13,7 @@ use task_ast::{Env, Expr, Op};
 /// The value of an expression that may name data variables. The flag falls where an operation on the way is not exact;
 /// cells of feeds are read by control values alone.
 #[cycle(values)]
-#[tactic(auto, using(task_ast::proofs::Views::view))]
+#[tactic(auto, using(task_ast::proofs::Views::view, task_ast::proofs::Values::value_on_none))]
 pub fn reckon_data(
     e: &Expr,
     names: &[Name],
@@ -23,8 +21,8 @@ pub fn reckon_data(
     registers: &[i64],
     exact: &mut bool,
 ) -> Option<i64>
-    ensures value { result ≡ option_map (λ t. term_value t registers.now) (term names.now (plain_expr e.now) env.now) }
-    ensures flag { has_data_index (plain_expr e.now) ≡ false → IfSome result (λ v. exact.new ≡ (exact.old && stays (plain_expr e.now) (with_data names.now registers.now env.now))) }
+    ensures value { result ≡ value (plain_expr e.now) (with_data names.now registers.now env.now) }
+    ensures flag { IfSome result (λ v. exact.new ≡ (exact.old && stays (plain_expr e.now) (with_data names.now registers.now env.now))) }
 {
     match e {
         Expr::Reg(x) => Some(register_value(names, x, registers)),
@@ -50,7 +48,7 @@ pub fn reckon_data(
 
 // The value of a chain from here on, from the value so far.
 #[cycle(values)]
-#[tactic(auto, using(task_ast::proofs::Views::view))]
+#[tactic(auto, using(task_ast::proofs::Views::view, task_ast::proofs::Values::value_on_none))]
 fn chain_data(
     links: &[(Op, Expr)],
     first: i64,
@@ -59,9 +57,8 @@ fn chain_data(
     registers: &[i64],
     exact: &mut bool,
 ) -> Option<i64>
-    ensures value { result ≡ option_map (λ more. terms_value more registers.now first) (terms names.now (plain_links links.now) env.now) }
-    ensures flag { some_member is_at_data (plain_links links.now) ≡ false →
-        IfSome result (λ v. exact.new ≡ (exact.old && stays_on (plain_links links.now) (with_data names.now registers.now env.now) (Some first))) }
+    ensures value { result ≡ value_on (plain_links links.now) (with_data names.now registers.now env.now) (Some first) }
+    ensures flag { IfSome result (λ v. exact.new ≡ (exact.old && stays_on (plain_links links.now) (with_data names.now registers.now env.now) (Some first))) }
 {
     let mut so_far = first;
     for link in links {
