@@ -140,10 +140,11 @@ fn report_of(alloc: Global, end: End, course: Course) -> Report
 /// `mean_steps` is the table in which the crew notes the steps of its runs, if it does: a subthread that is light by it goes
 /// alone, and others begin beside one that is heavy or new.
 ///
-/// `LogLine` and `LogFit` tell the first row of the log that is none, or that does not fit the program, these inputs and limits; nothing is
-/// written or posted then. `WriteFault` and `OutOfMemory` are that the output took no more, or memory is out; a part of the lines is written then. What the rows say that
-/// fit is taken as it stands: that they are those of this program's own run is not looked at.
-pub fn resume_drive<R: Threads + Sync, C: Crew, O: Sink>(
+/// `LogLine` and `LogFit` tell the first row of the log that is none, or that does not fit the program, these inputs and
+/// limits; nothing is written or posted then. `WriteFault` and `OutOfMemory` are that the output took no more, or memory
+/// is out; a part of the lines is written then. What the rows say that fit is taken as it stands: that they are those of
+/// this program's own run is not looked at.
+pub fn resume_paced<R: Threads + Sync, C: Crew, O: Sink>(
     rt: &R,
     alloc: Global,
     w: &Work,
@@ -182,4 +183,48 @@ pub fn resume_drive<R: Threads + Sync, C: Crew, O: Sink>(
     let mut course = course;
     let end = go_on(rt, alloc, &plan, &mut course, crew, out)?;
     Ok((text_bytes(logged), report_of(alloc, end, course)))
+}
+
+/// Goes on with a run from a log, as `resume_paced` does, by a crew that notes no steps: each subthread counts as heavy, and
+/// all that can begin beside it do.
+pub fn resume_drive<R: Threads + Sync, C: Crew, O: Sink>(
+    rt: &R,
+    alloc: Global,
+    w: &Work,
+    layout: Layout,
+    inputs: Inputs,
+    limits: Limits,
+    log: &Text,
+    crew: &mut C,
+    out: &mut O,
+) -> Result<(u64, Report), ResumeStop>
+    requires suits { Suits w.now layout inputs limits }
+    requires short { length log.now ≤ MOST_FILE_BYTES }
+    requires ready { C.ready crew.old }
+    requires work { C.work crew.old ≡ w.now }
+    requires none_out { C.out crew.old ≡ [] }
+    requires none_posted { C.posted crew.old ≡ [] }
+    ensures log { AnswersLog (program_in w.now) inputs limits log.now result }
+    ensures refused { IsRefused result → (O.written out.new ≡ O.written out.old) × (O.faults out.new ≡ O.faults out.old) × (C.posted crew.new ≡ []) }
+    ensures unread { ((rows : List Retirement) → IsLogOf (program_in w.now) inputs limits log.now rows → ⊥) → (O.written out.new ≡ O.written out.old) × (O.faults out.new ≡ O.faults out.old) }
+    ensures report { IfOk result (λ answer. (rows : List Retirement) → IsLogOf (program_in w.now) inputs limits log.now rows → ReportsRest (program_in w.now) inputs limits rows answer.0 answer.1) }
+    ensures lines { OnOk result ((rows : List Retirement) → IsLogOf (program_in w.now) inputs limits log.now rows → Appends (O.written out.old) (O.written out.new) (printed (lines (program_in w.now) inputs limits rows))) }
+    ensures partly { (rows : List Retirement) → IsLogOf (program_in w.now) inputs limits log.now rows → AppendsPrefix (O.written out.old) (O.written out.new) (printed (lines (program_in w.now) inputs limits rows)) }
+    ensures posts { OnOk result ((rows : List Retirement) → IsLogOf (program_in w.now) inputs limits log.now rows → IsEachOnce (C.posted crew.new) (length rows) (count (program_in w.now) inputs limits rows)) }
+    ensures some { (rows : List Retirement) → IsLogOf (program_in w.now) inputs limits log.now rows → AreSomeOnce (C.posted crew.new) (length rows) (count (program_in w.now) inputs limits rows) }
+    ensures cause { HasResumeCause (O.faults out.old) (O.faults out.new) result }
+{
+    let mean_steps = MeanSteps::new(alloc, w);
+    resume_paced(
+        rt,
+        alloc,
+        w,
+        layout,
+        inputs,
+        limits,
+        log,
+        &mean_steps,
+        crew,
+        out,
+    )
 }

@@ -21,6 +21,6 @@ mod stop;
 mod turning;
 mod waves;
 
-pub use drive::{put, resume_drive};
+pub use drive::{put, resume_drive, resume_paced};
 pub use reading::ends_no_line;
 pub use stop::ResumeStop;

@@ -11,7 +11,7 @@ use crate::plan::Plan;
 use call_cases::end_status;
 use crew::{Crew, MeanSteps};
 use gp_base::{Inputs, Limits, Sink, Text};
-use gp_resume::{ResumeStop, ends_no_line, put, resume_drive};
+use gp_resume::{ResumeStop, ends_no_line, put, resume_paced};
 use lock_checker::Checked;
 use reorder_list::Report;
 use restart_log::tail_text;
@@ -67,7 +67,7 @@ fn drive_rest<R: Threads + Sync, C: Crew, O: Sink>(
     requires none_posted { C.posted crew.old ≡ [] }
     ensures { Drives (program_in code.now) inputs limits log.now (change_of O.written O.faults out.old out.new) result }
 {
-    resume_drive(
+    resume_paced(
         rt, alloc, code, layout, inputs, limits, log, mean_steps, crew, out,
     )
 }

@@ -9,8 +9,8 @@ use Rattle.gp_resume.specs.meaning.Resumed.{lines, count}
 use Rattle.gp_resume.specs.Resuming.{IsRefused, ReportsRest, IsEachOnce, AreSomeOnce}
 use Rattle.gp_resume.specs.inner.Going.{Replays}
 use Rattle.gp_resume.proofs.Reports.{none-once, log-bytes, all-reports, all-lines, all-partly, all-posts, all-some, told-answers}
-use Rattle.gp_resume.proofs.drive.resume_drive.Goals as goal
-use Rattle.gp_resume.proofs.drive.resume_drive.Goals.{In_ok-course}
+use Rattle.gp_resume.proofs.drive.resume_paced.Goals as goal
+use Rattle.gp_resume.proofs.drive.resume_paced.Goals.{In_ok-course}
 
 -- the course stands where the rows of the log leave the run
 replays : (g : _) (c : In_ok-course g)
