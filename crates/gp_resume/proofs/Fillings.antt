@@ -1,5 +1,5 @@
 -- The runs of tasks come back in any order, and each to the place of its task.
-use Rattle.std.proofs.Common.{◌≡◌, ◌⊎◌, inl, inr, ℕ, zero, suc, ◌+◌, ◌-◌, ◌<◌, ◌≤◌, List, [], ◌∷◌, ◌++◌, length, length-append, Contains, Option, Some, None, unwrap_or, refl, sym, ap, ◌∙◌, subst, arith}
+use Rattle.std.proofs.Common.{◌≡◌, ◌⊎◌, inl, inr, ℕ, zero, suc, ◌+◌, ◌-◌, ◌<◌, ◌≤◌, List, [], ◌∷◌, ◌++◌, length, Contains, Option, Some, None, unwrap_or, refl, sym, ap, ◌∙◌, subst, arith}
 use Rattle.std.specs.Prelude.{slice_get, slice_set}
 use Rattle.std.proofs.lemmas.Bool.{cases_eq}
 use Rattle.std.proofs.lemmas.Option.{slice_get_within}
@@ -10,7 +10,7 @@ use Rattle.subthread.specs.declared.task.Work.{Work}
 use Rattle.subthread.specs.declared.task.Task.{Task}
 use Rattle.subthread.specs.declared.task.Done.{Done}
 use Rattle.subthread.specs.Tasks.{task_of, IsRun}
-use Rattle.gp_resume.specs.inner.Waves.{ArePlaced, IsAlone, IsRunOf, AreRunsOf, AreEmpty, Filling}
+use Rattle.gp_resume.specs.inner.Waves.{ArePlaced, IsRunOf, AreRunsOf, AreEmpty, Filling}
 
 -- the task at a place has the position of that place
 pub placed-at : (first : ℕ) (tasks : List Task) → ArePlaced first tasks → (k : ℕ) (task : Task) → slice_get tasks k ≡ Some task
@@ -142,18 +142,6 @@ filling-last work tasks out places none filling =
         let first = each 0 t refl in
         let same : Some first.0 ≡ p = (let e = first.1 in ap (λ o. unwrap_or o p) (sym e)) in
         (subst (IsRunOf work t) same (first.2, first.3), runs tasks places (omega arith) (λ k task e. each (suc k) task e))
-
--- the run of the only task that was out
-pub alone-taken : (work : Work) (out after : List Task) (done : Done) → IsAlone out → TakesOut out (task_of work done) after → IsRun work done
-    → (after ≡ []) × AreRunsOf work out (Some done ∷ [])
-alone-taken work out after done alone takes run = go takes.earlier takes.later (sym alone.1 ∙ takes.before_is) takes.after_is
-  where
-    go : (earlier later : List Task) → alone.0 ∷ [] ≡ earlier ++ task_of work done ∷ later → after ≡ earlier ++ later
-        → (after ≡ []) × AreRunsOf work out (Some done ∷ [])
-    go [] [] is rest = (rest, subst (λ tasks. AreRunsOf work tasks (Some done ∷ [])) (sym (alone.1 ∙ is)) ((refl, run), tt))
-    go [] (t ∷ later) is rest = absurd (let many = ap length is in omega arith)
-    go (e ∷ earlier) later is rest =
-        absurd (let many = ap length is in let parts = length-append earlier (task_of work done ∷ later) in omega arith)
 
 -- one more place for one more task
 pub empty-more : (out out' : List Task) (places places' : List (Option Done)) (task : Task) → out' ≡ out ++ task ∷ []

@@ -162,11 +162,6 @@ module _ (plan : Plan) (suits : IsSuited plan) where
           others = next.1.1.2;
         }
 
-    pub coming-alone : (x : Plain) (course : Course) (done : Done) → Flight plan threads x y fs course
-        → AreRunsOf plan.work.now (tasks_of plan x fs) (Some done ∷ []) → Coming written done [] course
-    coming-alone x course done flight are =
-        coming written (Some done) (Some done ∷ []) [] done course refl refl (homing-first x course (Some done ∷ []) flight are)
-
     module _ (now : Option (List ℕ)) (done : Done) (runs : List (Option Done)) (course : Course) (c : Coming now done runs course) where
       here : task_of plan.work.now done ≡ task_from plan.work.now c.f.before.state c.f.begun
       here = c.is_task ∙ ap (λ (p : Plain). task_from plan.work.now p.state c.f.begun) (sym c.flight.chain.0)

@@ -1,6 +1,6 @@
 // Subthreads that a crew runs beside one another.
 
-ghost use Rattle.std.specs.Prelude.{◌≡◌, ◌-◌, ◌<◌, ◌≤◌, ℕ, true, false, [], ◌∷◌, ◌++◌, List, length, slice_set, Some, All, Contains, OnOk, OnErr, IfOk, IfSome, IfNone};
+ghost use Rattle.std.specs.Prelude.{◌≡◌, ◌-◌, ◌<◌, ◌≤◌, ℕ, true, false, [], ◌∷◌, ◌++◌, List, length, slice_set, Some, All, Contains, OnOk, OnErr, IfOk};
 ghost use Rattle.std.specs.List.Sorted.{IsStrictlyIncreasing};
 ghost use Rattle.task_ast.specs.Plain.{Plain};
 ghost use Rattle.record_store.specs.Lent.{marked, MayComeHome};
@@ -13,7 +13,7 @@ ghost use Rattle.gp_resume.specs.inner.Handed.{bare_task, task_begun, IsLeft};
 ghost use Rattle.gp_resume.specs.inner.Flights.{Flown, Flight, Joins, task_from};
 ghost use Rattle.gp_resume.specs.inner.Going.{rest, firsts_from};
 ghost use Rattle.gp_resume.specs.inner.Flights.{StandsPast};
-ghost use Rattle.gp_resume.specs.inner.Waves.{tasks_of, subthreads, IsJoining, BeginsFirst, Sent, ArePlaced, IsAlone, AreEmpty, AreRunsOf, IsComing, WentBy};
+ghost use Rattle.gp_resume.specs.inner.Waves.{tasks_of, subthreads, IsJoining, BeginsFirst, Sent, ArePlaced, AreEmpty, AreRunsOf, IsComing, WentBy};
 ghost use Rattle.gp_resume.specs.meaning.Resumed.{lines_of};
 ghost use Rattle.gp_resume.specs.Resuming.{IsRefused, HasResumeCause};
 ghost use Rattle.gp_base.specs.meaning.Sinks.{AppendsPrefix};
@@ -129,9 +129,8 @@ fn are_worth_two(steps: u64, threads: usize) -> bool {
     worth(steps.saturating_mul(threads as u64), steps) > 1
 }
 
-// Posts the subthread that begins. Where subthreads like it are worth a second worker, it posts those too that can begin
-// beside it before any of them was run, and gives a place for the run of each. The error is that memory is out; some were
-// posted then.
+// Posts the subthread that begins and, where subthreads like it are worth a second worker, those that can begin beside it
+// before any of them was run. Gives a place for the run of each. The error is that memory is out; some were posted then.
 fn send_all<R: Threads + Sync, C: Crew>(
     rt: &R,
     alloc: Global,
@@ -140,7 +139,7 @@ fn send_all<R: Threads + Sync, C: Crew>(
     crew: &mut C,
     threads: usize,
     first: Begun,
-) -> Result<Option<Vec<Option<Done>>>, AllocError>
+) -> Result<Vec<Option<Done>>, AllocError>
     requires suits { IsSuited plan.now }
     requires begins { BeginsFirst plan.now threads first course.old }
     requires closed { course.old.ring.cleared ≡ false }
@@ -149,23 +148,22 @@ fn send_all<R: Threads + Sync, C: Crew>(
     requires none_out { C.out crew.old ≡ [] }
     requires fresh { (p : ℕ) → first.pos ≤ p → ¬ Contains (C.posted crew.old) (p, 0) }
     ensures sent { OnOk result ((x : Plain) (f : Flown) → f.begun ≡ first → Joins plan.now threads x [] f course.old → Sent plan.now threads x (C.posted crew.old) (C.posted crew.new) (C.out crew.new) course.new) }
-    ensures alone { IfOk result (λ beside. IfNone beside (IsAlone (C.out crew.new))) }
-    ensures places { IfOk result (λ beside. IfSome beside (λ places. AreEmpty (C.out crew.new) places.items)) }
+    ensures places { IfOk result (λ places. AreEmpty (C.out crew.new) places.items) }
     ensures some { (x : Plain) (f : Flown) → f.begun ≡ first → Joins plan.now threads x [] f course.old → (n : ℕ) × (n ≤ length (rest plan.now x)) × (C.posted crew.new ≡ C.posted crew.old ++ firsts_from x.table.issued n) }
     ensures ready { C.ready crew.new }
     ensures work { C.work crew.new ≡ C.work crew.old }
 {
-    let steps = send(rt, alloc, plan, course, crew, first)?;
-    if !are_worth_two(steps, threads) {
-        return Ok(None);
-    }
     let mut places = Vec::new(alloc);
+    let steps = send(rt, alloc, plan, course, crew, first)?;
     places.push(None)?;
+    if !are_worth_two(steps, threads) {
+        return Ok(places);
+    }
     'sending: while let Some(begun) = course.next_beside(alloc, plan, threads)? {
         send(rt, alloc, plan, course, crew, begun)?;
         places.push(None)?;
     }
-    Ok(Some(places))
+    Ok(places)
 }
 
 // How many places after the first a position stands.
@@ -220,22 +218,6 @@ fn collect<R: Threads + Sync, C: Crew>(
                 runs = keep(runs, at, done);
             }
         }
-    }
-}
-
-// The run of the only task that is out.
-fn run_alone<R: Threads + Sync, C: Crew>(rt: &R, crew: &mut C) -> Result<Done, AllocError>
-    requires ready { C.ready crew.old }
-    requires alone { IsAlone (C.out crew.old) }
-    ensures ready { C.ready crew.new }
-    ensures work { C.work crew.new ≡ C.work crew.old }
-    ensures none_left { OnOk result (C.out crew.new ≡ []) }
-    ensures posted { C.posted crew.new ≡ C.posted crew.old }
-    ensures runs { IfOk result (λ done. AreRunsOf (C.work crew.old) (C.out crew.old) (Some done ∷ [])) }
-{
-    match crew.next(rt)? {
-        Some(done) => Ok(done),
-        None => unreachable!(),
     }
 }
 
@@ -294,28 +276,6 @@ fn bring_home<O: Sink>(
     Ok(())
 }
 
-// Takes what the run of the only task leaves, and writes the lines that it printed.
-fn bring_alone<O: Sink>(
-    alloc: Global,
-    _plan: &Plan,
-    course: &mut Course,
-    out: &mut O,
-    done: Done,
-) -> Result<(), ResumeStop>
-    requires suits { IsSuited _plan.now }
-    requires coming { IsComing _plan.now (Some done ∷ []) course.old }
-    ensures stands { OnOk result ((threads : ℕ) (x : Plain) (y : Plain) (fs : List Flown) → Flight _plan.now threads x y fs course.old → AreRunsOf _plan.now.work.now (tasks_of _plan.now x fs) (Some done ∷ []) → StandsPast _plan.now y course.new) }
-    ensures lines { OnOk result ((threads : ℕ) (x : Plain) (y : Plain) (fs : List Flown) → Flight _plan.now threads x y fs course.old → AreRunsOf _plan.now.work.now (tasks_of _plan.now x fs) (Some done ∷ []) → Appends (O.written out.old) (O.written out.new) (printed (lines_of (subthreads fs)))) }
-    ensures partly { (threads : ℕ) (x : Plain) (y : Plain) (fs : List Flown) → Flight _plan.now threads x y fs course.old → AreRunsOf _plan.now.work.now (tasks_of _plan.now x fs) (Some done ∷ []) → AppendsPrefix (O.written out.old) (O.written out.new) (printed (lines_of (subthreads fs))) }
-    ensures cause { HasResumeCause (O.faults out.old) (O.faults out.new) result }
-    ensures told { ¬ IsRefused result }
-{
-    let lines = take(course, done);
-    let text = printed(alloc, &lines)?;
-    put(out, &text)?;
-    Ok(())
-}
-
 // The position of the subthread that begins.
 fn position_begun(begun: &Begun) -> Pos
     ensures { result ≡ begun.now.pos }
@@ -364,16 +324,8 @@ pub fn go_wave<R: Threads + Sync, C: Crew, O: Sink>(
         begun: first,
     } = leader;
     let position = position_begun(&first);
-    match send_all(rt, alloc, plan, course, crew, threads, first)? {
-        None => {
-            let done = run_alone(rt, crew)?;
-            bring_alone(alloc, plan, course, out, done)?;
-            Ok(())
-        }
-        Some(places) => {
-            let runs = collect(rt, crew, position, places)?;
-            bring_home(alloc, plan, course, out, runs)?;
-            Ok(())
-        }
-    }
+    let places = send_all(rt, alloc, plan, course, crew, threads, first)?;
+    let runs = collect(rt, crew, position, places)?;
+    bring_home(alloc, plan, course, out, runs)?;
+    Ok(())
 }

@@ -30,10 +30,6 @@ abbrev pub ArePlaced : (first : ℕ) → List Task → Type 0
 ArePlaced first [] = ⊤
 ArePlaced first (task ∷ tasks) = (task.pos ≡ first) × ArePlaced (first + 1) tasks
 
--- there is one task
-abbrev pub IsAlone : List Task → Type 0
-IsAlone tasks = (task : Task) × (tasks ≡ task ∷ [])
-
 -- a place for the run of each task, which has not come back
 abbrev pub AreEmpty : List Task → List (Option Done) → Type 0
 AreEmpty [] [] = ⊤

@@ -1,4 +1,4 @@
-use Rattle.std.proofs.Common.{[], ◌∷◌, Some, sym, ◌∙◌, subst}
+use Rattle.std.proofs.Common.{sym, ◌∙◌, subst}
 use Rattle.gp_resume.specs.inner.Waves.{ArePlaced}
 use Rattle.gp_resume.proofs.WavesGone.{wave-placed, wave-coming, wave-partly, wave-went}
 use Rattle.gp_resume.proofs.waves.go_wave.Goals as goal
@@ -8,96 +8,46 @@ collect-requires-clause-placed g c lifetimes within =
     let b = c.requires.begins in
     subst (λ p. ArePlaced p (g.C.Crew.out c.send_all.new.crew)) (sym c.position_begun-position.ensures)
     (wave-placed c.args.plan.now c.args.leader.threads b.before (g.C.Crew.posted c.args.crew.now) (g.C.Crew.posted c.send_all.new.crew)
-    (g.C.Crew.out c.send_all.new.crew) c.send_all.new.course
-    (c.in_ok-send_all.ensures.sent b.before b.flown b.is b.joins)
+    (g.C.Crew.out c.send_all.new.crew) c.send_all.new.course (c.in_ok-places.ensures.sent b.before b.flown b.is b.joins)
     b.flown c.args.leader.begun b.is (sym b.joins.chain) b.joins.flown.pos)
 
-pub returns-in_err-done-in-None-clause-some : goal.returns-in_err-done-in-None-clause-some
-returns-in_err-done-in-None-clause-some g c x f is joins =
-    let some = c.send_all.ensures.some x f is joins in (some.0, some.1, c.run_alone.ensures.posted ∙ some.2)
-
-pub bring_alone-requires-clause-coming : goal.bring_alone-requires-clause-coming
-bring_alone-requires-clause-coming g c =
-    let b = c.requires.begins in
-    wave-coming c.args.plan.now c.args.leader.threads b.before (g.C.Crew.posted c.args.crew.now) (g.C.Crew.posted c.send_all.new.crew)
-    (g.C.Crew.out c.send_all.new.crew) c.send_all.new.course
-    (c.in_ok-send_all.ensures.sent b.before b.flown b.is b.joins)
-    (g.C.Crew.work c.send_all.new.crew) (Some c.in_ok-done-in-None.done ∷ []) (c.send_all.ensures.work ∙ c.requires.work) c.in_ok-done-in-None.ensures.runs
-
-pub returns-in_err-bring_alone-in-None-clause-partly : goal.returns-in_err-bring_alone-in-None-clause-partly
-returns-in_err-bring_alone-in-None-clause-partly g c x f is joins =
-    wave-partly c.args.plan.now c.args.leader.threads x (g.C.Crew.posted c.args.crew.now) (g.C.Crew.posted c.send_all.new.crew)
-    (g.C.Crew.out c.send_all.new.crew) c.send_all.new.course
-    (c.in_ok-send_all.ensures.sent x f is joins)
-    (g.C.Crew.work c.send_all.new.crew) (Some c.in_ok-done-in-None.done ∷ []) (c.send_all.ensures.work ∙ c.requires.work) c.in_ok-done-in-None.ensures.runs
-    (g.O.Sink.written c.args.out.now) (g.O.Sink.written c.bring_alone.new.out) c.bring_alone.ensures.partly
-
-pub returns-in_err-bring_alone-in-None-clause-some : goal.returns-in_err-bring_alone-in-None-clause-some
-returns-in_err-bring_alone-in-None-clause-some g c x f is joins =
-    let some = c.send_all.ensures.some x f is joins in (some.0, some.1, c.run_alone.ensures.posted ∙ some.2)
-
-pub returns-in_ok-bring_alone-in-None-clause-went : goal.returns-in_ok-bring_alone-in-None-clause-went
-returns-in_ok-bring_alone-in-None-clause-went g c x f is joins =
-    wave-went c.args.plan.now c.args.leader.threads x (g.C.Crew.posted c.args.crew.now) (g.C.Crew.posted c.send_all.new.crew)
-    (g.C.Crew.out c.send_all.new.crew) c.send_all.new.course
-    (c.in_ok-send_all.ensures.sent x f is joins)
-    (g.C.Crew.work c.send_all.new.crew) (Some c.in_ok-done-in-None.done ∷ []) (c.send_all.ensures.work ∙ c.requires.work) c.in_ok-done-in-None.ensures.runs
-    (g.O.Sink.written c.args.out.now) (g.O.Sink.written c.bring_alone.new.out) (g.C.Crew.posted c.run_alone.new.crew) c.bring_alone.new.course
-    c.run_alone.ensures.posted c.in_ok-bring_alone-in-None.ensures.stands c.in_ok-bring_alone-in-None.ensures.lines
-
-pub returns-in_ok-bring_alone-in-None-clause-partly : goal.returns-in_ok-bring_alone-in-None-clause-partly
-returns-in_ok-bring_alone-in-None-clause-partly g c x f is joins =
-    wave-partly c.args.plan.now c.args.leader.threads x (g.C.Crew.posted c.args.crew.now) (g.C.Crew.posted c.send_all.new.crew)
-    (g.C.Crew.out c.send_all.new.crew) c.send_all.new.course
-    (c.in_ok-send_all.ensures.sent x f is joins)
-    (g.C.Crew.work c.send_all.new.crew) (Some c.in_ok-done-in-None.done ∷ []) (c.send_all.ensures.work ∙ c.requires.work) c.in_ok-done-in-None.ensures.runs
-    (g.O.Sink.written c.args.out.now) (g.O.Sink.written c.bring_alone.new.out) c.bring_alone.ensures.partly
-
-pub returns-in_ok-bring_alone-in-None-clause-some : goal.returns-in_ok-bring_alone-in-None-clause-some
-returns-in_ok-bring_alone-in-None-clause-some g c x f is joins =
-    let some = c.send_all.ensures.some x f is joins in (some.0, some.1, c.run_alone.ensures.posted ∙ some.2)
-
-pub returns-in_err-runs-in-Some-clause-some : goal.returns-in_err-runs-in-Some-clause-some
-returns-in_err-runs-in-Some-clause-some g c x f is joins =
+pub returns-in_err-runs-clause-some : goal.returns-in_err-runs-clause-some
+returns-in_err-runs-clause-some g c x f is joins =
     let some = c.send_all.ensures.some x f is joins in (some.0, some.1, c.collect.ensures.posted ∙ some.2)
 
 pub bring_home-requires-clause-coming : goal.bring_home-requires-clause-coming
 bring_home-requires-clause-coming g c =
     let b = c.requires.begins in
     wave-coming c.args.plan.now c.args.leader.threads b.before (g.C.Crew.posted c.args.crew.now) (g.C.Crew.posted c.send_all.new.crew)
-    (g.C.Crew.out c.send_all.new.crew) c.send_all.new.course
-    (c.in_ok-send_all.ensures.sent b.before b.flown b.is b.joins)
-    (g.C.Crew.work c.send_all.new.crew) (c.in_ok-runs-in-Some.runs.items) (c.send_all.ensures.work ∙ c.requires.work) c.in_ok-runs-in-Some.ensures.runs
+    (g.C.Crew.out c.send_all.new.crew) c.send_all.new.course (c.in_ok-places.ensures.sent b.before b.flown b.is b.joins)
+    (g.C.Crew.work c.send_all.new.crew) c.in_ok-runs.runs.items (c.send_all.ensures.work ∙ c.requires.work) c.in_ok-runs.ensures.runs
 
-pub returns-in_err-bring_home-in-Some-clause-partly : goal.returns-in_err-bring_home-in-Some-clause-partly
-returns-in_err-bring_home-in-Some-clause-partly g c x f is joins =
+pub returns-in_err-bring_home-clause-partly : goal.returns-in_err-bring_home-clause-partly
+returns-in_err-bring_home-clause-partly g c x f is joins =
     wave-partly c.args.plan.now c.args.leader.threads x (g.C.Crew.posted c.args.crew.now) (g.C.Crew.posted c.send_all.new.crew)
-    (g.C.Crew.out c.send_all.new.crew) c.send_all.new.course
-    (c.in_ok-send_all.ensures.sent x f is joins)
-    (g.C.Crew.work c.send_all.new.crew) (c.in_ok-runs-in-Some.runs.items) (c.send_all.ensures.work ∙ c.requires.work) c.in_ok-runs-in-Some.ensures.runs
+    (g.C.Crew.out c.send_all.new.crew) c.send_all.new.course (c.in_ok-places.ensures.sent x f is joins)
+    (g.C.Crew.work c.send_all.new.crew) c.in_ok-runs.runs.items (c.send_all.ensures.work ∙ c.requires.work) c.in_ok-runs.ensures.runs
     (g.O.Sink.written c.args.out.now) (g.O.Sink.written c.bring_home.new.out) c.bring_home.ensures.partly
 
-pub returns-in_err-bring_home-in-Some-clause-some : goal.returns-in_err-bring_home-in-Some-clause-some
-returns-in_err-bring_home-in-Some-clause-some g c x f is joins =
+pub returns-in_err-bring_home-clause-some : goal.returns-in_err-bring_home-clause-some
+returns-in_err-bring_home-clause-some g c x f is joins =
     let some = c.send_all.ensures.some x f is joins in (some.0, some.1, c.collect.ensures.posted ∙ some.2)
 
-pub returns-in_ok-bring_home-in-Some-clause-went : goal.returns-in_ok-bring_home-in-Some-clause-went
-returns-in_ok-bring_home-in-Some-clause-went g c x f is joins =
+pub returns-clause-went : goal.returns-clause-went
+returns-clause-went g c x f is joins =
     wave-went c.args.plan.now c.args.leader.threads x (g.C.Crew.posted c.args.crew.now) (g.C.Crew.posted c.send_all.new.crew)
-    (g.C.Crew.out c.send_all.new.crew) c.send_all.new.course
-    (c.in_ok-send_all.ensures.sent x f is joins)
-    (g.C.Crew.work c.send_all.new.crew) (c.in_ok-runs-in-Some.runs.items) (c.send_all.ensures.work ∙ c.requires.work) c.in_ok-runs-in-Some.ensures.runs
+    (g.C.Crew.out c.send_all.new.crew) c.send_all.new.course (c.in_ok-places.ensures.sent x f is joins)
+    (g.C.Crew.work c.send_all.new.crew) c.in_ok-runs.runs.items (c.send_all.ensures.work ∙ c.requires.work) c.in_ok-runs.ensures.runs
     (g.O.Sink.written c.args.out.now) (g.O.Sink.written c.bring_home.new.out) (g.C.Crew.posted c.collect.new.crew) c.bring_home.new.course
-    c.collect.ensures.posted c.in_ok-bring_home-in-Some.ensures.stands c.in_ok-bring_home-in-Some.ensures.lines
+    c.collect.ensures.posted c.in_ok-bring_home.ensures.stands c.in_ok-bring_home.ensures.lines
 
-pub returns-in_ok-bring_home-in-Some-clause-partly : goal.returns-in_ok-bring_home-in-Some-clause-partly
-returns-in_ok-bring_home-in-Some-clause-partly g c x f is joins =
+pub returns-clause-partly : goal.returns-clause-partly
+returns-clause-partly g c x f is joins =
     wave-partly c.args.plan.now c.args.leader.threads x (g.C.Crew.posted c.args.crew.now) (g.C.Crew.posted c.send_all.new.crew)
-    (g.C.Crew.out c.send_all.new.crew) c.send_all.new.course
-    (c.in_ok-send_all.ensures.sent x f is joins)
-    (g.C.Crew.work c.send_all.new.crew) (c.in_ok-runs-in-Some.runs.items) (c.send_all.ensures.work ∙ c.requires.work) c.in_ok-runs-in-Some.ensures.runs
+    (g.C.Crew.out c.send_all.new.crew) c.send_all.new.course (c.in_ok-places.ensures.sent x f is joins)
+    (g.C.Crew.work c.send_all.new.crew) c.in_ok-runs.runs.items (c.send_all.ensures.work ∙ c.requires.work) c.in_ok-runs.ensures.runs
     (g.O.Sink.written c.args.out.now) (g.O.Sink.written c.bring_home.new.out) c.bring_home.ensures.partly
 
-pub returns-in_ok-bring_home-in-Some-clause-some : goal.returns-in_ok-bring_home-in-Some-clause-some
-returns-in_ok-bring_home-in-Some-clause-some g c x f is joins =
+pub returns-clause-some : goal.returns-clause-some
+returns-clause-some g c x f is joins =
     let some = c.send_all.ensures.some x f is joins in (some.0, some.1, c.collect.ensures.posted ∙ some.2)

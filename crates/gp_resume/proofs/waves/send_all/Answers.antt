@@ -1,8 +1,8 @@
-use Rattle.std.proofs.Common.{◌≡◌, ◌≤◌, [], ◌∷◌, ◌++◌, sym, ap, ◌∙◌, subst}
+use Rattle.std.proofs.Common.{◌≡◌, ◌≤◌, [], sym, ap, ◌∙◌, subst}
 use Rattle.task_ast.specs.Plain.{Plain}
 use Rattle.token_order.specs.View.{Roomy}
 use Rattle.gp_resume.specs.declared.course.Begun.{Begun}
-use Rattle.gp_resume.specs.inner.Flights.{Flown, Joins, task_from}
+use Rattle.gp_resume.specs.inner.Flights.{Flown, Joins}
 use Rattle.gp_resume.specs.inner.Waves.{GivesBeside, Sent}
 use Rattle.gp_resume.proofs.Fillings.{empty-more, empty-none}
 use Rattle.gp_resume.proofs.Sendings.{sent-first, sent-more, sent-some, sent-fresh, sent-falls}
@@ -34,11 +34,12 @@ pub returns-then-not-are_worth_two-clause-sent : goal.returns-then-not-are_worth
 returns-then-not-are_worth_two-clause-sent g c x f is joins =
     first g ((goal.at.returns-then-not-are_worth_two-clause-sent g c).In_ok-steps) x f is joins
 
-pub returns-then-not-are_worth_two-clause-alone : goal.returns-then-not-are_worth_two-clause-alone
-returns-then-not-are_worth_two-clause-alone g c =
+pub returns-then-not-are_worth_two-clause-places : goal.returns-then-not-are_worth_two-clause-places
+returns-then-not-are_worth_two-clause-places g c =
     let b = c.requires.begins in
-    let task = task_from c.args.plan.now.work.now b.before.state c.args.first in
-    (task, c.in_ok-steps.ensures.out c.args.threads b.before [] b.flown b.is b.joins ∙ ap (λ out. out ++ task ∷ []) c.requires.none_out)
+    empty-more (g.C.Crew.out c.args.crew.now) (g.C.Crew.out c.send.new.crew) c.new-places.result.items c.push.new.self.items _
+    (c.in_ok-steps.ensures.out c.args.threads b.before [] b.flown b.is b.joins) c.in_ok-push.ensures.items
+    (empty-none (g.C.Crew.out c.args.crew.now) c.new-places.result.items c.requires.none_out c.new-places.ensures.items)
 
 pub returns-then-not-are_worth_two-clause-some : goal.returns-then-not-are_worth_two-clause-some
 returns-then-not-are_worth_two-clause-some g c x f is joins =
