@@ -2,18 +2,59 @@
 
 use crate::counts::push_many;
 use crate::indices::push_index;
+use crate::loops::push_loops;
 use crate::threads::{Tasks, push_names};
 use call_cases::Request;
 use gp_base::limits::{MOST_SUBTHREADS, MOST_TURNS};
-use gp_base::{End, Limits, ThreadNo, Why};
+use gp_base::{End, Limits, LockNo, ThreadNo, Why};
 use one_thread::{PlainRun, Standing, Step, run_plain, stand_before};
 use run_counts::Counting;
-use run_views::{push_between, push_labelled};
+use run_views::{push_between, push_labelled, push_lock};
 use std::alloc::{AllocError, Global};
-use task_ast::{Next, SyncOp};
+use task_ast::{Head, Next, SyncOp};
 
-// How many threads have their control variables told.
+// How many threads have their control variables told, and of how many locks it is told who holds them.
 const MOST_TOLD: usize = 100;
+
+// The lines in which locks were last taken, by their numbers, of which there are so many.
+fn taking_lines(alloc: Global, order: &[Step], count: usize) -> Result<Vec<u32>, AllocError> {
+    let mut lines = Vec::from_elem(alloc, 0, count)?;
+    for step in order {
+        if let SyncOp::Lock(lock) = &step.begins.sync {
+            if let Some(line) = lines.get_mut(lock.0 as usize) {
+                *line = step.begins.line;
+            }
+        }
+    }
+    Ok(lines)
+}
+
+// Appends who holds which locks, and where they were taken, of the first locks that are held.
+fn push_holders(
+    alloc: Global,
+    text: &mut Vec<u8>,
+    heads: &[Head],
+    order: &[Step],
+    standing: &Standing,
+) -> Result<(), AllocError> {
+    let owners = standing.owners.as_slice();
+    let lines = taking_lines(alloc, order, owners.len())?;
+    let mut told: usize = 0;
+    let mut lock: u32 = 0;
+    for (owner, line) in owners.iter().zip(&lines) {
+        if let Some(thread) = owner {
+            if told < MOST_TOLD {
+                push_labelled(text, b"thread ", *thread)?;
+                text.extend_from_slice(b" holds ")?;
+                push_lock(text, heads, LockNo(lock))?;
+                push_between(text, b", taken in line ", *line, b"\n")?;
+            }
+            told = told.saturating_add(1);
+        }
+        lock = lock.saturating_add(1);
+    }
+    Ok(())
+}
 
 // Appends the control variables of a thread, where it has any.
 fn push_names_of(
@@ -84,13 +125,17 @@ pub fn push_stuck_details(
     alloc: Global,
     text: &mut Vec<u8>,
     request: &Request,
-    why: Why,
-    thread: ThreadNo,
-    line: u32,
+    order: &[Step],
+    stuck: (Why, ThreadNo, u32),
     standing: &Standing,
 ) -> Result<(), AllocError> {
+    let (why, thread, line) = stuck;
     match why {
-        Why::Deadlock => push_waiting(text, standing),
+        Why::Deadlock => {
+            let heads = request.checked.program().heads.as_slice();
+            push_holders(alloc, text, heads, order, standing)?;
+            push_waiting(text, standing)
+        }
         Why::Index => push_index(alloc, text, request, thread, line, standing),
         Why::Join => push_join(text, thread, standing),
         Why::Threads => push_between(
@@ -125,26 +170,31 @@ fn push_limit(
 
 // Appends that a subthread took all loop turns that it may.
 fn push_turns(
+    alloc: Global,
     text: &mut Vec<u8>,
     request: &Request,
-    run: &PlainRun,
-    counting: &Counting,
+    step: &Step,
+    noted: (&Counting, &Tasks),
     standing: &Standing,
     position: usize,
 ) -> Result<(), AllocError> {
+    let (counting, tasks) = noted;
     let given = request.asked.limits.turns;
-    if let Some(step) = run.order.get(position) {
-        push_labelled(text, b"thread ", step.thread.0)?;
-        push_labelled(text, b" took ", given)?;
-        text.extend_from_slice(if given == 1 {
-            b" loop turn"
-        } else {
-            b" loop turns"
-        })?;
-        text.extend_from_slice(b" in one subthread, last at the loop in line ")?;
-        push_between(text, b"", counting.control_line(position), b"\n")?;
-        push_names_of(text, step.thread, standing)?;
+    push_labelled(text, b"thread ", step.thread.0)?;
+    push_labelled(text, b" took ", given)?;
+    text.extend_from_slice(if given == 1 {
+        b" loop turn"
+    } else {
+        b" loop turns"
+    })?;
+    text.extend_from_slice(b" in one subthread, last at the loop in line ")?;
+    let line = counting.control_line(position);
+    push_between(text, b"", line, b"")?;
+    if let Some(task) = tasks.task_of(request.checked.program(), step.thread) {
+        push_loops(alloc, text, task, line)?;
     }
+    text.extend_from_slice(b"\n")?;
+    push_names_of(text, step.thread, standing)?;
     push_limit(
         text,
         b"--turns",
@@ -240,9 +290,8 @@ pub fn push_spent_details(
     else {
         return Ok(());
     };
-    if at < run.order.len() {
-        push_turns(text, request, run, counting, &standing, at)
-    } else {
-        push_subthreads(alloc, text, request, tasks, &standing, at)
+    match run.order.get(at) {
+        Some(step) => push_turns(alloc, text, request, step, (counting, tasks), &standing, at),
+        None => push_subthreads(alloc, text, request, tasks, &standing, at),
     }
 }

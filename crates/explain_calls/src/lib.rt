@@ -5,6 +5,7 @@
 mod counts;
 mod details;
 mod indices;
+mod loops;
 mod reading;
 mod refused;
 mod running;

@@ -100,7 +100,14 @@ fn front_of(
         End::Stuck { why, thread, line } => {
             let standing = last_standing(alloc, request, run.order.len())?;
             push_stuck(alloc, &mut text, heads, run.end, &standing)?;
-            push_stuck_details(alloc, rest, request, why, thread, line, &standing)?;
+            push_stuck_details(
+                alloc,
+                rest,
+                request,
+                run.order.as_slice(),
+                (why, thread, line),
+                &standing,
+            )?;
             Ok(text)
         }
     }

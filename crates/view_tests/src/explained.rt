@@ -14,8 +14,32 @@ task main() {
 
 const ALONE_TOLD: &str = "stuck deadlock thread 0 line 5
 thread 0 line 5 waits for lock l[0], which it holds itself
+thread 0 holds l[0], taken in line 4
 thread 0: i = 0, j = 0
 2 subthreads, 1 thread, 1 lock taken; at most 1 subthread side by side
+arithmetic: exact in every line that ran
+";
+
+// The lock that thread 1 holds was taken before, in another line.
+const AGAIN: &str = "lock l[2];
+task t() {
+  lock l[1];
+  unlock l[1];
+  lock l[1];
+  join 0;
+  unlock l[1];
+}
+task main() {
+  fork t();
+  join 1;
+}
+";
+
+const AGAIN_TOLD: &str = "stuck deadlock thread 0 line 11
+thread 0 line 11 waits for thread 1 to end
+thread 1 line 6 waits for thread 0 to end
+thread 1 holds l[1], taken in line 5
+6 subthreads, 2 threads, 2 locks taken; at most 1 subthread side by side
 arithmetic: exact in every line that ran
 ";
 
@@ -23,6 +47,9 @@ const TWO_TOLD: &str = "stuck deadlock thread 0 line 22
 thread 0 line 22 waits for thread 1 to end
 thread 1 line 7 waits for lock y[1] of thread 2
 thread 2 line 15 waits for lock x[1] of thread 1
+thread 1 holds x[1], taken in line 5
+thread 1 holds y[0], taken in line 6
+thread 2 holds y[1], taken in line 14
 8 subthreads, 3 threads, 3 locks taken; at most 2 subthreads side by side
 arithmetic: exact in every line that ran
 ";
@@ -48,6 +75,9 @@ const THREE_TOLD: &str = "stuck deadlock thread 1 line 6
 thread 1 line 6 waits for lock l[1] of thread 2
 thread 2 line 6 waits for lock l[2] of thread 3
 thread 3 line 6 waits for lock l[0] of thread 1
+thread 1 holds l[0], taken in line 4
+thread 2 holds l[1], taken in line 4
+thread 3 holds l[2], taken in line 4
 thread 1: i = 0, j = 1
 thread 2: i = 1, j = 2
 thread 3: i = 2, j = 0
@@ -115,7 +145,8 @@ thread -1 is joined; there is 1 thread, 0
 arithmetic: exact in every line that ran
 ";
 
-const STUCK: [Row; 8] = [
+const STUCK: [Row; 9] = [
+    ("explain p.gp", AGAIN, "", 5, AGAIN_TOLD, ""),
     ("explain p.gp", ALONE, "", 5, ALONE_TOLD, ""),
     ("explain p.gp", DEADLOCK, "", 5, TWO_TOLD, ""),
     ("explain p.gp", THREE, "", 5, THREE_TOLD, ""),
@@ -262,8 +293,31 @@ const NESTED: &str = "task main() {
 ";
 
 const NESTED_TOLD: &str = "spent 0
-thread 0 took 10 loop turns in one subthread, last at the loop in line 5
+thread 0 took 10 loop turns in one subthread, last at the loop in line 5, in that of line 3
 thread 0: i = 2
+hint: --turns allows up to 10000000, for a loop that ends
+1 subthread, 1 thread, 0 locks taken; at most 1 subthread side by side
+arithmetic: exact in every line that ran
+";
+
+const DEEP: &str = "task main() {
+  var i, j;
+  while 1 {
+    if j == 0 {
+      while i < 2 {
+        i = i + 1;
+        j = 0;
+        while j < 1 { j = j + 1; }
+      }
+    }
+  }
+}
+";
+
+// The turns are those of the lines 3, 5, 8 and 5.
+const DEEP_TOLD: &str = "spent 0
+thread 0 took 4 loop turns in one subthread, last at the loop in line 8, in those of the lines 3, 5
+thread 0: i = 2, j = 0
 hint: --turns allows up to 10000000, for a loop that ends
 1 subthread, 1 thread, 0 locks taken; at most 1 subthread side by side
 arithmetic: exact in every line that ran
@@ -321,7 +375,7 @@ hint: --subthreads allows up to 200000, for a batch that ends
 arithmetic: exact in every line that ran
 ";
 
-const SPENT: [Row; 6] = [
+const SPENT: [Row; 7] = [
     (
         "explain p.gp --subthreads 2",
         BEGINS,
@@ -333,6 +387,7 @@ const SPENT: [Row; 6] = [
     ("explain p.gp --subthreads 1", BEGINS, "", 6, FORKS_TOLD, ""),
     ("explain p.gp --turns 10", LOOP, "", 6, LOOP_TOLD, ""),
     ("explain p.gp --turns 10", NESTED, "", 6, NESTED_TOLD, ""),
+    ("explain p.gp --turns 4", DEEP, "", 6, DEEP_TOLD, ""),
     ("explain --turns 3 p.gp", OTHER, "", 6, OTHER_TOLD, ""),
     ("explain p.gp --subthreads 5", MANY, "", 6, MANY_TOLD, ""),
 ];
