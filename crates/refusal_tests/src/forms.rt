@@ -78,7 +78,7 @@ const LEXING: [Case; 11] = [
 ];
 
 // Tokens that cannot stand where they do.
-const PARSING: [Case; 24] = [
+const PARSING: [Case; 25] = [
     (
         b"task main() {\n  var i, $x;\n  i = ;\n}\n",
         UnknownName,
@@ -218,6 +218,12 @@ const PARSING: [Case; 24] = [
         b"p.gp:7:3: `$ret` cannot stand here; `task` was expected\n  $ret = i;\n  ^\nparse 1: the first token that no program goes on with (parse 1 at byte 64)\nhint: the `}` in line 5 closes the block that begins in line 3\nhint: a program is heads (`lock`, `record`, `feed`, `barrier`) and then tasks; statements stand in a task: `task main() { .. }`\n",
     ),
     (
+        b"task t() {\n}\n  func f() {\n}\n",
+        UnknownName,
+        1,
+        b"p.gp:3:3: `func` cannot stand here; `task` was expected\n  func f() {\n  ^\nparse 1: the first token that no program goes on with (parse 1 at byte 15)\nhint: write `task t(x) { .. }`, outside of other tasks\n",
+    ),
+    (
         b"task t() -> x {\n}\n",
         UnknownName,
         1,
@@ -343,7 +349,7 @@ fn bytes_that_cannot_stand(rt: HostRuntime) -> Result<(), Fail> {
 
 #[test]
 fn tokens_that_cannot_stand(rt: HostRuntime) -> Result<(), Fail> {
-    let table: [Case; 24] = PARSING;
+    let table: [Case; 25] = PARSING;
     for (program, kind, line, wanted) in &table {
         let text = told(rt.alloc(), program, *kind, *line)?;
         assert_eq!(rt; text.as_slice(), *wanted);

@@ -677,7 +677,7 @@ impl<'a> Spot<'a> {
             else_hints(alloc, self.program, self.tokens, self.number)
         } else if self.is_in_arm() && (kind == Kind::Name || is_control(kind)) {
             arm_hints(alloc, self.program, self.tokens, self.number)
-        } else if self.wants(TASK) && kind != CLOSE_BLOCK && kind != TASK {
+        } else if self.wants(TASK) && self.begins_statement() {
             closing_hints(alloc, self.program, self.tokens, self.number)
         } else {
             Ok(Vec::new(alloc))
