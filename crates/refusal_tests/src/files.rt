@@ -19,7 +19,7 @@ enum Used {
 type Case = (Used, &'static [u8], FileKind, u32, &'static [u8]);
 
 // Records of 40 cells, feeds of three fields, faults.
-const FILES: [Case; 22] = [
+const FILES: [Case; 23] = [
     (
         Used::Feed,
         b"0,1,2\n0,1,3\n\n0,1,4\n0,1,5\n0,1,12.50\n",
@@ -33,6 +33,13 @@ const FILES: [Case; 22] = [
         Fields,
         1,
         b"f.csv:1: 1 field, and not 3 (kind 1 row 1)\n1;2;3\nhint: the line has 2 semicolons: fields stand between commas\n",
+    ),
+    (
+        Used::Record,
+        b"5000\n",
+        Fields,
+        1,
+        b"f.csv:1: 1 field, and not 2 (kind 1 row 1)\n5000\nhint: a row of a record's file is index,value\n",
     ),
     (
         Used::Feed,
@@ -194,7 +201,7 @@ fn is_told(alloc: Global, case: &Case) -> Result<bool, AllocError> {
 
 #[test]
 fn files_that_are_refused(rt: HostRuntime) -> Result<(), Fail> {
-    let table: [Case; 22] = FILES;
+    let table: [Case; 23] = FILES;
     for case in &table {
         assert!(rt; is_told(rt.alloc(), case)?);
     }

@@ -8,7 +8,7 @@ use task_ast::CheckKind::UnknownName;
 type Case = (&'static [u8], CheckKind, u32, &'static [u8]);
 
 // Bytes that cannot stand where they do.
-const LEXING: [Case; 10] = [
+const LEXING: [Case; 11] = [
     (
         b"task main() {\n  var $x;\n  when $x > 1.5 {\n  }\n}\n",
         UnknownName,
@@ -69,10 +69,16 @@ const LEXING: [Case; 10] = [
         1,
         b"p.gp:3:7: 9223372036854775808 is too big\n  i = 9223372036854775808;\n      ^\nlex 2: a number is at most 9223372036854775807 (lex 2 at byte 33)\n",
     ),
+    (
+        b"task main() {\n  var i;\n  i = f[0, 1:3];\n}\n",
+        UnknownName,
+        1,
+        b"p.gp:3:13: `:` cannot stand here\n  i = f[0, 1:3];\n            ^\nlex 1: outside of comments a text has ASCII letters, digits and the marks of the language (lex 1 at byte 35)\n",
+    ),
 ];
 
 // Tokens that cannot stand where they do.
-const PARSING: [Case; 17] = [
+const PARSING: [Case; 25] = [
     (
         b"task main() {\n  var i, $x;\n  i = ;\n}\n",
         UnknownName,
@@ -174,6 +180,54 @@ const PARSING: [Case; 17] = [
         UnknownName,
         1,
         b"p.gp:3:13: the text ends here; `}` or a statement was expected\n    print 1;\n            ^\nparse 1: the first token that no program goes on with (parse 1 at byte 39)\nhint: the blocks are open that begin in the lines 1, 2\n",
+    ),
+    (
+        b"task main() {\n  var i, $x;\n  when $x {\n    $x = 1;\n  i = 2;\n}\n",
+        UnknownName,
+        1,
+        b"p.gp:5:3: `i` cannot stand here; `}` or a data statement was expected\n  i = 2;\n  ^\nparse 1: the first token that no program goes on with (parse 1 at byte 53)\nhint: a `}` may be missing: the block of the `when` in line 3 is open\nhint: the arms of a `when` hold only `$x = e;`, `read`, `write`, `print` and `when`; `settle $x into c;` makes $x a control value, for an `if`\n",
+    ),
+    (
+        b"task main() {\n  var $x;\n  when $x {\n  } else {\n    $x = 1;\n  lock l[0];\n}\n",
+        UnknownName,
+        1,
+        b"p.gp:6:3: `lock` cannot stand here; `}` or a data statement was expected\n  lock l[0];\n  ^\nparse 1: the first token that no program goes on with (parse 1 at byte 61)\nhint: a `}` may be missing: the block of the `else` in line 4 is open\nhint: the arms of a `when` hold only `$x = e;`, `read`, `write`, `print` and `when`; `settle $x into c;` makes $x a control value, for an `if`\n",
+    ),
+    (
+        b"task main() {\n  var i;\n  if i {\n    i = 1;\n  else {\n    i = 2;\n  }\n}\n",
+        UnknownName,
+        1,
+        b"p.gp:5:3: `else` cannot stand here; `}` or a statement was expected\n  else {\n  ^\nparse 1: the first token that no program goes on with (parse 1 at byte 45)\nhint: a `}` may be missing: the block of the `if` in line 3 is open\nhint: an `else` follows the block of its `if` or `when` directly\n",
+    ),
+    (
+        b"task main() {\n  var i;\n  while i {\n    if i {\n      i = 1;\n      }\n    } else {\n      i = 2;\n    }\n  }\n}\n",
+        UnknownName,
+        1,
+        b"p.gp:7:7: `else` cannot stand here; `}` or a statement was expected\n    } else {\n      ^\nparse 1: the first token that no program goes on with (parse 1 at byte 73)\nhint: the `}` in line 6 closes the block that begins in line 4\nhint: an `else` follows the block of its `if` or `when` directly\n",
+    ),
+    (
+        b"task main() {\n  var i;\n  while i {\n  } else {\n  }\n}\n",
+        UnknownName,
+        1,
+        b"p.gp:4:5: `else` cannot stand here; `}` or a statement was expected\n  } else {\n    ^\nparse 1: the first token that no program goes on with (parse 1 at byte 39)\nhint: the `}` in line 4 closes the block that begins in line 3\nhint: an `else` follows the block of its `if` or `when` directly\n",
+    ),
+    (
+        b"task main() {\n  var i, $ret;\n  while i {\n    i = 0;\n    }\n  }\n  $ret = i;\n}\n",
+        UnknownName,
+        1,
+        b"p.gp:7:3: `$ret` cannot stand here; `task` was expected\n  $ret = i;\n  ^\nparse 1: the first token that no program goes on with (parse 1 at byte 64)\nhint: the `}` in line 5 closes the block that begins in line 3\nhint: a program is heads (`lock`, `record`, `feed`, `barrier`) and then tasks; statements stand in a task: `task main() { .. }`\n",
+    ),
+    (
+        b"task t() {\n}\n  func f() {\n}\n",
+        UnknownName,
+        1,
+        b"p.gp:3:3: `func` cannot stand here; `task` was expected\n  func f() {\n  ^\nparse 1: the first token that no program goes on with (parse 1 at byte 15)\nhint: write `task t(x) { .. }`, outside of other tasks\n",
+    ),
+    (
+        b"task t() -> x {\n}\n",
+        UnknownName,
+        1,
+        b"p.gp:1:10: `-` cannot stand here; `{` was expected\ntask t() -> x {\n         ^\nparse 1: the first token that no program goes on with (parse 1 at byte 9)\n",
     ),
 ];
 
@@ -285,7 +339,7 @@ const FORMS: [Case; 17] = [
 
 #[test]
 fn bytes_that_cannot_stand(rt: HostRuntime) -> Result<(), Fail> {
-    let table: [Case; 10] = LEXING;
+    let table: [Case; 11] = LEXING;
     for (program, kind, line, wanted) in &table {
         let text = told(rt.alloc(), program, *kind, *line)?;
         assert_eq!(rt; text.as_slice(), *wanted);
@@ -295,7 +349,7 @@ fn bytes_that_cannot_stand(rt: HostRuntime) -> Result<(), Fail> {
 
 #[test]
 fn tokens_that_cannot_stand(rt: HostRuntime) -> Result<(), Fail> {
-    let table: [Case; 17] = PARSING;
+    let table: [Case; 25] = PARSING;
     for (program, kind, line, wanted) in &table {
         let text = told(rt.alloc(), program, *kind, *line)?;
         assert_eq!(rt; text.as_slice(), *wanted);

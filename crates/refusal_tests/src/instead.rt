@@ -11,7 +11,7 @@ type Case = (&'static [u8], &'static [u8]);
 const BEFORE: &[u8] =
     b"lock bank[4];\nrecord acct[4] by bank;\nfeed moves[2] from \"moves.csv\";\nbarrier step(2);\ntask t(n) {\n}\ntask main() {\n  var i, j, $x;\n";
 
-const STATEMENTS: [Case; 68] = [
+const STATEMENTS: [Case; 86] = [
     (
         b"i = moves.rows;",
         b"no name has fields: `rows(f)` is the number of rows of feed f",
@@ -176,9 +176,51 @@ const STATEMENTS: [Case; 68] = [
         b"write `$ret = 3;` as the last statement; the others go into an `if`",
     ),
     (b"if i { end", b"a block ends with `}`"),
+    (b"if i between 0 and 5 { }", b"write `0 <= i and i <= 5`"),
+    (
+        b"if i in (1, 2) { }",
+        b"write `0 <= i and i <= 5`, or `i == 1 or i == 5`",
+    ),
+    (b"if i equals 3 { }", b"write `a == b`"),
+    (b"if i > 2,000 { }", b"a number has digits alone, as `1000`"),
+    (b"case 1: i = 3;", b"write `if e { .. } else { .. }`"),
+    (
+        b"k: int = 3;",
+        b"all values are whole numbers: write `var x;`, and names without a type",
+    ),
+    (
+        b"def f(x): i = 3;",
+        b"write `task t(x) { .. }`, outside of other tasks",
+    ),
+    (b"unlock bank[i]:", b"a statement ends with `;`"),
+    (
+        b"for i := 0; i < 3; i++ { }",
+        b"write `i = 0; while i < n { .. i = i + 1; }`",
+    ),
+    (
+        b"write acct[0] += 3;",
+        b"write `read r[i] into $x; write r[i] = $x + e;`",
+    ),
+    (b"i = 1; -- note", b"a comment begins with `#`"),
+    (b"% note", b"a comment begins with `#`"),
+    (b"--i;", b"write `i = i + 1;`"),
+    (
+        b"read moves[i, 1] into $x;",
+        b"a cell of a feed stands in an expression: `$x = f[i, 0];`",
+    ),
+    (
+        b"write moves[i, 1] = 0;",
+        b"a feed is only read: `$x = f[i, 0];`",
+    ),
+    (
+        b"join i, j;",
+        b"each thread has a `join` of its own: `join g; join h;`",
+    ),
+    (b"i.join();", b"write `join h into $x;`, or `join h;`"),
+    (b"my-sum = 3;", b"a name has letters, digits and `_`"),
 ];
 
-const TOPS: [Case; 14] = [
+const TOPS: [Case; 23] = [
     (
         b"record lock[4] by l;",
         b"`lock` is a word of the language: take another name",
@@ -223,6 +265,33 @@ const TOPS: [Case; 14] = [
         b"task main() { } lock l[3];",
         b"heads stand before all tasks",
     ),
+    (
+        b"const N = 3;",
+        b"there are no constants: write the number where it is used",
+    ),
+    (
+        b"int pool[1];",
+        b"cells that are written are a record under its locks: `lock l[4]; record r[4] by l;`",
+    ),
+    (b"mutex pool[1];", b"write `lock l[4];`"),
+    (
+        b"lock pool[2 * 3];",
+        b"a size stands as a number in the text",
+    ),
+    (b"lock my-pool[1];", b"a name has letters, digits and `_`"),
+    (
+        b"task desk(var first, last) { }",
+        b"names stand alone between the commas",
+    ),
+    (
+        b"task desk(first, last):",
+        b"a block stands between `{` and `}`",
+    ),
+    (
+        b"task t(x: int) { }",
+        b"all values are whole numbers: write `var x;`, and names without a type",
+    ),
+    (b"-- note", b"a comment begins with `#`"),
 ];
 
 // Whether a text ends with this hint, in a line of its own.

@@ -1,8 +1,9 @@
 // Which blocks are open at a token.
 
-use crate::pieces::{push_between, push_number};
+use crate::pieces::{push_between, push_number, push_words};
 use std::alloc::{AllocError, Global};
 use task_parser::{Kind, Token};
+use text_places::bytes_of;
 
 const OPEN: Kind = Kind::Mark(4);
 
@@ -15,12 +16,13 @@ struct Closing {
     closed: u32,
 }
 
-// The tokens `{` that are open at a place, by their numbers; and the first `}` at the beginning of a line that stands
-// in another column than the line of its `{` begins in.
+// The tokens `{` that are open at a place, by their numbers; the first `}` at the beginning of a line that stands
+// in another column than the line of its `{` begins in; and the last `}`.
 #[derive(Drop)]
 struct Blocks {
     open: Vec<usize>,
     moved: Option<Closing>,
+    last: Option<Closing>,
 }
 
 // How many bytes of a line stand before a place.
@@ -58,16 +60,22 @@ fn indent(program: &[u8], tokens: &[Token], number: usize) -> usize {
     }
 }
 
+// A `}` and its `{`, by their numbers.
+fn closing_of(tokens: &[Token], open: usize, close: usize) -> Option<Closing> {
+    let (opened, closed) = (tokens.get(open)?.line, tokens.get(close)?.line);
+    Some(Closing { opened, closed })
+}
+
 // A `}` that begins its line in another column than the line of its `{` begins in.
 fn moved(program: &[u8], tokens: &[Token], open: usize, close: usize) -> Option<Closing> {
-    let (opened, closed) = (tokens.get(open)?.line, tokens.get(close)?.line);
-    if opened == closed || line_start(tokens, close) != close {
+    let closing = closing_of(tokens, open, close)?;
+    if closing.opened == closing.closed || line_start(tokens, close) != close {
         return None;
     }
     if indent(program, tokens, open) == indent(program, tokens, close) {
         None
     } else {
-        Some(Closing { opened, closed })
+        Some(closing)
     }
 }
 
@@ -81,6 +89,7 @@ fn blocks_before(
     let mut blocks = Blocks {
         open: Vec::new(alloc),
         moved: None,
+        last: None,
     };
     for (at, token) in tokens.iter().enumerate() {
         if at >= number {
@@ -90,6 +99,7 @@ fn blocks_before(
             blocks.open.push(at)?;
         } else if token.kind == CLOSE {
             if let Some(open) = blocks.open.pop() {
+                blocks.last = closing_of(tokens, open, at);
                 if blocks.moved.is_none() {
                     blocks.moved = moved(program, tokens, open, at);
                 }
@@ -115,6 +125,62 @@ fn push_open(text: &mut Vec<u8>, tokens: &[Token], open: &[usize]) -> Result<(),
         }
     }
     text.extend_from_slice(b"\n")
+}
+
+// Appends which block a `}` closes.
+fn push_closing(text: &mut Vec<u8>, closing: Closing) -> Result<(), AllocError> {
+    push_between(
+        text,
+        b"hint: the `}` in line ",
+        u64::from(closing.closed),
+        b" closes the block that begins in line ",
+    )?;
+    push_between(text, b"", u64::from(closing.opened), b"\n")
+}
+
+// Appends which block a `}` may have closed too early: the first that stands in another column than the line of its `{`,
+// or the last.
+fn push_early(text: &mut Vec<u8>, blocks: &Blocks) -> Result<(), AllocError> {
+    if let Some(closing) = blocks.moved {
+        push_closing(text, closing)
+    } else if let Some(closing) = blocks.last {
+        push_closing(text, closing)
+    } else {
+        Ok(())
+    }
+}
+
+// The first token of the statement whose block begins at this token.
+fn head_of(tokens: &[Token], open: usize) -> Option<&Token> {
+    let before = tokens.get(..open)?;
+    let length = before
+        .iter()
+        .rev()
+        .take_while(|token| !matches!(token.kind, Kind::Mark(4 | 5 | 7)))
+        .count();
+    tokens.get(open.saturating_sub(length))
+}
+
+// Appends that a block may lack its `}`, unless it is that of a task.
+fn push_missing(
+    text: &mut Vec<u8>,
+    program: &[u8],
+    tokens: &[Token],
+    open: usize,
+) -> Result<(), AllocError> {
+    let Some(head) = head_of(tokens, open) else {
+        return Ok(());
+    };
+    if !matches!(head.kind, Kind::Word(9 | 10 | 11 | 18)) {
+        return Ok(());
+    }
+    push_words(
+        text,
+        b"hint: a `}` may be missing: the block of the `",
+        bytes_of(program, head),
+        b"` in line ",
+    )?;
+    push_between(text, b"", u64::from(head.line), b" is open\n")
 }
 
 /// The hints where a text ends in a block, a task begins in one, or a `}` stands where no block is open: which blocks
@@ -143,13 +209,62 @@ pub fn block_hints(
         text.extend_from_slice(b"hint: no block is open here\n")?;
     }
     if let Some(closing) = blocks.moved {
-        push_between(
-            &mut text,
-            b"hint: the `}` in line ",
-            u64::from(closing.closed),
-            b" closes the block that begins in line ",
-        )?;
-        push_between(&mut text, b"", u64::from(closing.opened), b"\n")?;
+        push_closing(&mut text, closing)?;
+    }
+    Ok(text)
+}
+
+/// The hint where a control statement stands in an arm of a `when`, and no deeper than the line that begins the arm: this
+/// block may lack its `}`.
+pub fn arm_hints(
+    alloc: Global,
+    program: &[u8],
+    tokens: &[Token],
+    number: usize,
+) -> Result<Vec<u8>, AllocError> {
+    let mut text = Vec::new(alloc);
+    let mut blocks = blocks_before(alloc, program, tokens, number)?;
+    let Some(open) = blocks.open.pop() else {
+        return Ok(text);
+    };
+    if line_start(tokens, number) == number
+        && indent(program, tokens, number) <= indent(program, tokens, open)
+    {
+        push_missing(&mut text, program, tokens, open)?;
+    }
+    Ok(text)
+}
+
+/// The hint on an `else` that can't stand: which block is open where no `}` stands before it, and else which block a `}`
+/// closes: the first in another column than the line of its `{`, or the last.
+pub fn else_hints(
+    alloc: Global,
+    program: &[u8],
+    tokens: &[Token],
+    number: usize,
+) -> Result<Vec<u8>, AllocError> {
+    let mut text = Vec::new(alloc);
+    let mut blocks = blocks_before(alloc, program, tokens, number)?;
+    if is_behind_block(tokens, number) {
+        push_early(&mut text, &blocks)?;
+    } else if let Some(open) = blocks.open.pop() {
+        push_missing(&mut text, program, tokens, open)?;
+    }
+    Ok(text)
+}
+
+/// The hint on a statement behind the end of a task, where it begins a line and is indented: which block a `}` closes, as
+/// for an `else`.
+pub fn closing_hints(
+    alloc: Global,
+    program: &[u8],
+    tokens: &[Token],
+    number: usize,
+) -> Result<Vec<u8>, AllocError> {
+    let mut text = Vec::new(alloc);
+    if line_start(tokens, number) == number && indent(program, tokens, number) > 0 {
+        let blocks = blocks_before(alloc, program, tokens, number)?;
+        push_early(&mut text, &blocks)?;
     }
     Ok(text)
 }
@@ -159,5 +274,13 @@ fn ends_block(tokens: &[Token], number: usize) -> bool {
     match tokens.get(number) {
         Some(token) => token.kind == Kind::Word(7),
         None => true,
+    }
+}
+
+// Whether the token before this one ends a block.
+fn is_behind_block(tokens: &[Token], number: usize) -> bool {
+    match tokens.get(number.saturating_sub(1)) {
+        Some(token) => token.kind == CLOSE,
+        None => false,
     }
 }

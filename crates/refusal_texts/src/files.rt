@@ -221,11 +221,18 @@ fn names_fields(row: &ByteRecord) -> bool {
 }
 
 // Appends a hint on a row with another number of fields.
-fn push_fields_hint(text: &mut Vec<u8>, line: &[u8]) -> Result<(), AllocError> {
+fn push_fields_hint(
+    text: &mut Vec<u8>,
+    line: &[u8],
+    row: &ByteRecord,
+    used: FileUse<'_>,
+) -> Result<(), AllocError> {
     if count(line, b';') > 0 {
         push_separator(text, count(line, b';'), b" semicolon")
     } else if count(line, b'\t') > 0 {
         push_separator(text, count(line, b'\t'), b" tab")
+    } else if row.len() == 1 && matches!(used, FileUse::Record { .. }) {
+        text.extend_from_slice(b"hint: a row of a record's file is index,value\n")
     } else {
         Ok(())
     }
@@ -252,11 +259,12 @@ fn push_hint(
     text: &mut Vec<u8>,
     line: &[u8],
     row: &ByteRecord,
+    used: FileUse<'_>,
     kind: FileKind,
     number: u32,
 ) -> Result<(), AllocError> {
     match (kind, bad_field(row)) {
-        (FileKind::Fields, _) => push_fields_hint(text, line),
+        (FileKind::Fields, _) => push_fields_hint(text, line, row, used),
         (FileKind::Number, Some(field)) => push_number_hint(text, row, field, number),
         _ => Ok(()),
     }
@@ -268,6 +276,7 @@ fn push_line(
     bytes: &[u8],
     place: Option<RowPlace>,
     row: &ByteRecord,
+    used: FileUse<'_>,
     kind: FileKind,
     number: u32,
 ) -> Result<(), AllocError> {
@@ -279,7 +288,7 @@ fn push_line(
         push_shown(text, line)?;
         text.extend_from_slice(b"\n")?;
     }
-    push_hint(text, line, row, kind, number)
+    push_hint(text, line, row, used, kind, number)
 }
 
 /// Appends why a file is refused at a row: the name of the file, the line of the row, what is said of the row, the rule
@@ -309,7 +318,7 @@ pub fn push_file_refusal(
     push_row_message(alloc, text, bytes, &record, used, kind)?;
     push_between(text, b" (kind ", kind_number(kind), b" row ")?;
     push_between(text, b"", u64::from(row), b")\n")?;
-    push_line(text, bytes, place, &record, kind, row)
+    push_line(text, bytes, place, &record, used, kind, row)
 }
 
 /// Appends that a file is too long.

@@ -89,17 +89,36 @@ const BEGINNINGS: [Row; 54] = [
 ];
 
 // Words that stand between the parts of an expression, or name functions, in other languages.
-const OPERATORS: [Row; 10] = [
+const OPERATORS: [Row; 13] = [
     (b"mod", b"write `a % b`"),
     (b"div", b"write `a / b`"),
     (b"xor", b"write `(a == 0) != (b == 0)`"),
     (b"is", b"write `a == b`"),
+    (b"equals", b"write `a == b`"),
+    (b"between", b"write `0 <= i and i <= 5`"),
+    (b"in", b"write `0 <= i and i <= 5`, or `i == 1 or i == 5`"),
     (b"then", BLOCK),
     (b"do", BLOCK),
     (b"begin", BLOCK),
     (b"end", CLOSED),
     (b"endif", CLOSED),
     (b"int", b"all values are whole numbers: write `var x;`"),
+];
+
+const CONSTANT: &[u8] = b"there are no constants: write the number where it is used";
+
+const CELLS: &[u8] =
+    b"cells that are written are a record under its locks: `lock l[4]; record r[4] by l;`";
+
+// Words that begin what stands outside of functions in other languages.
+const HEADS: [Row; 7] = [
+    (b"const", CONSTANT),
+    (b"let", CONSTANT),
+    (b"define", CONSTANT),
+    (b"int", CELLS),
+    (b"long", CELLS),
+    (b"mutex", b"write `lock l[4];`"),
+    (b"semaphore", b"write `lock l[4];`"),
 ];
 
 const LEAST: &[u8] = b"`a + (b - a) * (b < a)` is the lesser of two";
@@ -148,9 +167,15 @@ pub fn beginning(word: &[u8]) -> Option<&'static [u8]> {
     told_in(&table, word)
 }
 
+/// What is written in place of a head that begins with this word.
+pub fn head(word: &[u8]) -> Option<&'static [u8]> {
+    let table: [Row; 7] = HEADS;
+    told_in(&table, word)
+}
+
 /// What is written in place of this word where an operator or the end of an expression could stand.
 pub fn operator(word: &[u8]) -> Option<&'static [u8]> {
-    let table: [Row; 10] = OPERATORS;
+    let table: [Row; 13] = OPERATORS;
     told_in(&table, word)
 }
 

@@ -1,5 +1,6 @@
 // What to write in place of a byte that can't stand where it does.
 
+use crate::foreign::{BLOCK, beginning};
 use crate::hints::{COMMENT, hint_line};
 use std::alloc::{AllocError, Global};
 use text_places::{is_quoted_at, line_before};
@@ -57,6 +58,7 @@ fn point_hint(program: &[u8], at: usize) -> &'static [u8] {
     let before = program.get(at.saturating_sub(1));
     let after = rest.get(1);
     let locks: [&[u8]; 2] = [b".lock", b".unlock"];
+    let joins: [&[u8]; 1] = [b".join"];
     let counts: [&[u8]; 5] = [b".rows", b".len", b".size", b".count", b".num"];
     if names_file(line_before(program, at)) {
         b"the name of a file stands in double quotes"
@@ -66,6 +68,8 @@ fn point_hint(program: &[u8], at: usize) -> &'static [u8] {
         CENTS
     } else if begins_with(rest, &counts) {
         ROWS
+    } else if begins_with(rest, &joins) {
+        b"write `join h into $x;`, or `join h;`"
     } else if begins_with(rest, &locks) {
         b"write `lock l[i]; .. unlock l[i];`"
     } else if is_letter(after) {
@@ -75,9 +79,75 @@ fn point_hint(program: &[u8], at: usize) -> &'static [u8] {
     }
 }
 
+// How many bytes at the front are spaces, or ends of blocks.
+fn margin(line: &[u8]) -> usize {
+    line.iter()
+        .take_while(|byte| matches!(**byte, b' ' | b'\t' | b'}'))
+        .count()
+}
+
+// The first word of a line.
+fn first_word(line: &[u8]) -> &[u8] {
+    let Some(rest) = line.get(margin(line)..) else {
+        return &[];
+    };
+    let length = rest
+        .iter()
+        .take_while(|byte| is_letter(Some(*byte)))
+        .count();
+    match rest.get(..length) {
+        Some(word) => word,
+        None => &[],
+    }
+}
+
+// Whether the bytes at a place are the rest of a line without a mark.
+fn ends_line(program: &[u8], at: usize) -> bool {
+    match program.get(at..) {
+        Some(rest) => {
+            let spaces = rest.iter().take_while(|byte| **byte == b' ').count();
+            matches!(rest.get(spaces), None | Some(b'\n' | b'\r' | b'#'))
+        }
+        None => true,
+    }
+}
+
+// Whether a `:` behind these bytes of its line begins a block in other languages.
+fn begins_block(line: &[u8]) -> bool {
+    let words: [&[u8]; 4] = [b"if", b"else", b"while", b"when"];
+    let word = first_word(line);
+    for other in &words {
+        if **other == *word {
+            return true;
+        }
+    }
+    word.starts_with(b"task") && line.ends_with(b")")
+}
+
+// What to write in place of a `:`.
+fn colon_hint(program: &[u8], at: usize) -> Option<&'static [u8]> {
+    let line = line_before(program, at);
+    let next = program.get(at.saturating_add(1));
+    let word = first_word(line);
+    if beginning(word).is_some() {
+        beginning(word)
+    } else if next == Some(&b'=') {
+        Some(b"write `i = 3;`")
+    } else if is_digit(next) || is_letter(next) {
+        None
+    } else if begins_block(line) {
+        Some(BLOCK)
+    } else if ends_line(program, at.saturating_add(1)) {
+        Some(b"a statement ends with `;`")
+    } else if is_letter(program.get(at.saturating_add(2))) {
+        Some(b"all values are whole numbers: write `var x;`, and names without a type")
+    } else {
+        None
+    }
+}
+
 // What to write in place of a byte that can't stand where it is shown.
 fn byte_hint(program: &[u8], at: usize) -> Option<&'static [u8]> {
-    let next = program.get(at.saturating_add(1));
     match program.get(at)? {
         b'.' => Some(point_hint(program, at)),
         b'!' => Some(b"`not e` is what other languages write `!e`, and `!=` is one mark"),
@@ -87,11 +157,7 @@ fn byte_hint(program: &[u8], at: usize) -> Option<&'static [u8]> {
         b'\'' => Some(
             b"there are numbers alone, and texts in double quotes for the names of files",
         ),
-        b':' => if next == Some(&b'=') {
-            Some(b"write `i = 3;`")
-        } else {
-            Some(b"a block stands between `{` and `}`")
-        },
+        b':' => colon_hint(program, at),
         b'?' => Some(b"write `if e { .. } else { .. }`, or for data `when e { .. } else { .. }`"),
         b'^' => Some(b"there is no power: write `a * a`"),
         b'~' => Some(b"`not e` is 1 where e is 0, and else 0"),

@@ -1,7 +1,7 @@
 // What to write in place of a token that can't stand where it does.
 
-use crate::blocks::block_hints;
-use crate::foreign::{BLOCK, beginning, function, giving, operator, without_parentheses};
+use crate::blocks::{arm_hints, block_hints, closing_hints, else_hints};
+use crate::foreign::{BLOCK, beginning, function, giving, head, operator, without_parentheses};
 use crate::hints::{COMMENT, hint_line};
 use crate::kinds::has;
 use crate::parsing::token_number;
@@ -41,17 +41,25 @@ const GREATER: Kind = Kind::Mark(13);
 
 const SLASH: Kind = Kind::Mark(18);
 
+const PERCENT: Kind = Kind::Mark(19);
+
 const BY: Kind = Kind::Word(4);
 
 const FEED: Kind = Kind::Word(6);
 
 const TASK: Kind = Kind::Word(7);
 
+const VAR: Kind = Kind::Word(8);
+
 const IF: Kind = Kind::Word(10);
 
 const ELSE: Kind = Kind::Word(11);
 
+const JOIN: Kind = Kind::Word(14);
+
 const READ: Kind = Kind::Word(15);
+
+const WRITE: Kind = Kind::Word(16);
 
 const PRINT: Kind = Kind::Word(17);
 
@@ -63,6 +71,10 @@ const ONE_INDEX: &[u8] =
     b"a lock and a cell of a record have one index: `k = 10 * i + j; read r[k] into $x;`";
 
 const INCREASED: &[u8] = b"write `i = i + 1;`";
+
+const SIZE: &[u8] = b"a size stands as a number in the text";
+
+const DIGITS: &[u8] = b"a number has digits alone, as `1000`";
 
 // What is told of a token.
 #[derive(Clone, Copy)]
@@ -206,11 +218,75 @@ impl<'a> Spot<'a> {
         false
     }
 
+    // Whether the program has a task before this token.
+    fn is_behind_task(&self) -> bool {
+        let Some(before) = self.tokens.get(..self.number) else {
+            return false;
+        };
+        for token in before {
+            if token.kind == TASK {
+                return true;
+            }
+        }
+        false
+    }
+
     // Two slashes, or a slash and a star.
-    fn is_comment(&self) -> bool {
+    fn is_slashed(&self) -> bool {
         let star = matches!(self.kind_after(), Some(Kind::Mark(17 | 18)));
         self.kind() == Some(SLASH)
             && (self.kind_before() == Some(SLASH) || star && self.is_joined_after())
+    }
+
+    // Two minuses in a row, with a space behind them.
+    fn is_dashed(&self) -> bool {
+        let is_double = self.kind() == Some(MINUS)
+            && self.kind_after() == Some(MINUS)
+            && self.is_joined_after();
+        match (self.after(), self.tokens.get(self.number.saturating_add(2))) {
+            (Some(after), Some(third)) => is_double && after.to != third.from,
+            _ => is_double,
+        }
+    }
+
+    // A comment of another language.
+    fn is_comment(&self) -> bool {
+        let is_first = self.has(READ) || self.has(TASK);
+        self.is_slashed() || is_first && (self.is_dashed() || self.kind() == Some(PERCENT))
+    }
+
+    // Whether this token is a minus inside what would be a name in other languages.
+    fn is_hyphen(&self) -> bool {
+        self.kind() == Some(MINUS)
+            && self.kind_before() == Some(Kind::Name)
+            && matches!(self.kind_after(), Some(Kind::Name | Kind::Word(_)))
+            && self.is_joined()
+            && self.is_joined_after()
+            && !self.has(MINUS)
+    }
+
+    // Whether this token is a comma inside of a number.
+    fn is_inside_number(&self) -> bool {
+        self.kind() == Some(COMMA)
+            && matches!(self.kind_before(), Some(Kind::Num(_)))
+            && matches!(self.kind_after(), Some(Kind::Num(_)))
+            && self.is_joined()
+            && self.is_joined_after()
+    }
+
+    // Whether a statement begins at this token.
+    fn begins_statement(&self) -> bool {
+        match self.kind() {
+            Some(Kind::Name | Kind::Reg) => self.kind_after() == Some(ASSIGN),
+            Some(kind) => is_control(kind) || matches!(kind, Kind::Word(8 | 15..=18)),
+            None => false,
+        }
+    }
+
+    // Whether the token before this one is the `]` of what a `write` sets.
+    fn is_written(&self) -> bool {
+        let is_write = matches!(self.first(), Some(token) if token.kind == WRITE);
+        is_write && self.kind_before() == Some(CLOSE_BRACKET)
     }
 
     // Whether this token and the next would set what stands before them in other languages.
@@ -230,6 +306,9 @@ impl<'a> Spot<'a> {
             return beginning(before);
         }
         let word = self.bytes(self.back(0));
+        if self.has(TASK) && head(word).is_some() {
+            return head(word);
+        }
         if self.has(TASK) && beginning(word).is_some() {
             return beginning(word);
         }
@@ -260,6 +339,10 @@ impl<'a> Spot<'a> {
         let kind = self.kind()?;
         if self.is_comment() {
             Some(COMMENT)
+        } else if self.is_hyphen() {
+            Some(b"a name has letters, digits and `_`")
+        } else if is_arithmetic(self.kind()) && self.wants(ASSIGN) && self.is_written() {
+            Some(b"write `read r[i] into $x; write r[i] = $x + e;`")
         } else if is_arithmetic(self.kind()) && (self.wants(ASSIGN) || self.has(READ)) {
             Some(INCREASED)
         } else if is_arithmetic(self.kind()) && self.kind_before() == self.kind() {
@@ -325,6 +408,10 @@ impl<'a> Spot<'a> {
             Some(b"write `write r[i] = e;`")
         } else if self.has(CLOSE_PAREN) && self.is_in_print() {
             Some(b"no parentheses around several values: write `print e, g;`")
+        } else if self.is_inside_number() {
+            Some(DIGITS)
+        } else if self.has(SEMICOLON) && matches!(self.first(), Some(token) if token.kind == JOIN) {
+            Some(b"each thread has a `join` of its own: `join g; join h;`")
         } else {
             None
         }
@@ -376,6 +463,21 @@ impl<'a> Spot<'a> {
         }
     }
 
+    // A cell of a feed in a `read` or a `write`.
+    fn feed_hint(&self) -> Option<&'static [u8]> {
+        if !self.wants(CLOSE_BRACKET) || !self.is_feed(self.bytes(self.back(3))) {
+            return None;
+        }
+        let kind = self.back(4)?.kind;
+        if kind == READ {
+            Some(b"a cell of a feed stands in an expression: `$x = f[i, 0];`")
+        } else if kind == WRITE {
+            Some(b"a feed is only read: `$x = f[i, 0];`")
+        } else {
+            None
+        }
+    }
+
     // What is no index of a lock or of a record.
     fn index_hint(&self) -> Option<&'static [u8]> {
         let kind = self.kind()?;
@@ -388,7 +490,11 @@ impl<'a> Spot<'a> {
         } else if self.wants(CLOSE_BRACKET)
             && (is_arithmetic(self.kind()) || kind == OPEN_BRACKET || kind == OPEN_PAREN)
         {
-            Some(INDEX)
+            if self.is_behind_task() {
+                Some(INDEX)
+            } else {
+                Some(SIZE)
+            }
         } else {
             None
         }
@@ -407,7 +513,7 @@ impl<'a> Spot<'a> {
             && matches!(self.kind_before(), Some(Kind::Num(_)))
             && self.is_joined()
         {
-            Some(b"a number has digits alone, as `1000`")
+            Some(DIGITS)
         } else if kind == Kind::Quoted && self.is_in_print() {
             Some(
                 b"numbers alone are printed: give each kind of line a number of its own, as its first",
@@ -427,7 +533,7 @@ impl<'a> Spot<'a> {
         if self.wants(BY) {
             Some(b"a record stands under the lock array that guards it: `record r[4] by l;`")
         } else if self.kinds.len() == 1 && self.has(Kind::Num(1)) && kind == Kind::Name {
-            Some(b"a size stands as a number in the text")
+            Some(SIZE)
         } else if self.wants(TASK) && matches!(kind, Kind::Word(0 | 2 | 3 | 6)) {
             Some(b"heads stand before all tasks")
         } else if self.has(TASK)
@@ -462,6 +568,13 @@ impl<'a> Spot<'a> {
         if self.has(MINUS) && self.has(Kind::Name) && giving(word).is_some() {
             return Some(Hint::Fixed(giving(word)?));
         }
+        if kind == VAR
+            && self.has(Kind::Reg)
+            && !self.has(MINUS)
+            && matches!(self.kind_before(), Some(Kind::Mark(2 | 6)))
+        {
+            return Some(Hint::Fixed(b"names stand alone between the commas"));
+        }
         if self.has(Kind::Name) && self.is_beside() {
             return Some(Hint::Word(word));
         }
@@ -479,7 +592,10 @@ impl<'a> Spot<'a> {
             Some(Hint::Fixed(b"a statement ends with `;`"))
         } else if self.has(CLOSE_PAREN) && self.has(PLUS) && is_end {
             Some(Hint::Fixed(b"a `(` is not closed"))
-        } else if self.has(OPEN_BLOCK) && kind != Some(SEMICOLON) {
+        } else if self.has(OPEN_BLOCK)
+            && kind != Some(SEMICOLON)
+            && (!self.is_beside() || self.begins_statement())
+        {
             Some(Hint::Fixed(BLOCK))
         } else {
             None
@@ -531,6 +647,9 @@ impl<'a> Spot<'a> {
         if let Some(hint) = self.case_hint() {
             return Some(hint);
         }
+        if let Some(hint) = self.feed_hint() {
+            return Some(Hint::Fixed(hint));
+        }
         if let Some(hint) = self.index_hint() {
             return Some(Hint::Fixed(hint));
         }
@@ -547,6 +666,22 @@ impl<'a> Spot<'a> {
             return Some(hint);
         }
         self.follow_hint()
+    }
+
+    // The hints on the block that may lack its `}`, or that ended too early, where a statement or an `else` can't stand.
+    fn block_lines(&self, alloc: Global) -> Result<Vec<u8>, AllocError> {
+        let Some(kind) = self.kind() else {
+            return Ok(Vec::new(alloc));
+        };
+        if kind == ELSE && self.has(READ) {
+            else_hints(alloc, self.program, self.tokens, self.number)
+        } else if self.is_in_arm() && (kind == Kind::Name || is_control(kind)) {
+            arm_hints(alloc, self.program, self.tokens, self.number)
+        } else if self.wants(TASK) && self.begins_statement() {
+            closing_hints(alloc, self.program, self.tokens, self.number)
+        } else {
+            Ok(Vec::new(alloc))
+        }
     }
 }
 
@@ -570,46 +705,34 @@ fn misplaced<'a>(kind: Kind, word: &'a [u8]) -> Option<Hint<'a>> {
     }
 }
 
-// A hint as a line.
-fn told(alloc: Global, hint: Hint<'_>) -> Result<Vec<u8>, AllocError> {
-    let mut text = Vec::new(alloc);
+// Appends a hint as a line.
+fn push_told(text: &mut Vec<u8>, hint: Hint<'_>) -> Result<(), AllocError> {
     match hint {
-        Hint::Fixed(fixed) => push_words(&mut text, b"hint: ", fixed, b"\n")?,
+        Hint::Fixed(fixed) => push_words(text, b"hint: ", fixed, b"\n"),
         Hint::Word(word) => push_words(
-            &mut text,
+            text,
             b"hint: `",
             word,
             b"` is a word of the language: take another name\n",
-        )?,
+        ),
         Hint::Case(word) => push_words(
-            &mut text,
+            text,
             b"hint: `",
             word,
             b"` is no word of the language: those are in lower case\n",
-        )?,
-        Hint::Cell(name) => push_words(
-            &mut text,
-            b"hint: a cell of a feed is `",
-            name,
-            b"[i, 0]`\n",
-        )?,
+        ),
+        Hint::Cell(name) => push_words(text, b"hint: a cell of a feed is `", name, b"[i, 0]`\n"),
         Hint::Unknown(name) => {
-            push_words(
-                &mut text,
-                b"hint: `",
-                name,
-                b"` is no word of the language; ",
-            )?;
-            push_words(&mut text, b"a variable is set by `", name, b" = e;`\n")?
+            push_words(text, b"hint: `", name, b"` is no word of the language; ")?;
+            push_words(text, b"a variable is set by `", name, b" = e;`\n")
         }
         Hint::NoEnd(line) => push_between(
-            &mut text,
+            text,
             b"hint: a `;` is missing at the end of line ",
             u64::from(line),
             b"\n",
-        )?,
+        ),
     }
-    Ok(text)
 }
 
 /// The hints on a token that can't stand where it does.
@@ -627,8 +750,10 @@ pub fn parse_hints(
         number,
         kinds,
     };
-    match spot.hint() {
-        Some(hint) => told(alloc, hint),
-        None => block_hints(alloc, program, tokens, number),
-    }
+    let Some(hint) = spot.hint() else {
+        return block_hints(alloc, program, tokens, number);
+    };
+    let mut text = spot.block_lines(alloc)?;
+    push_told(&mut text, hint)?;
+    Ok(text)
 }
