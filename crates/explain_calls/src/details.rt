@@ -1,8 +1,9 @@
 // What is told of a run that is stuck or has spent its limits, after its front.
 
 use crate::counts::push_many;
+use crate::ended::push_ended;
 use crate::indices::push_index;
-use crate::loops::push_loops;
+use crate::loops::{Loop, Place, loops_at, push_conditions, push_loops, push_outer};
 use crate::threads::{Tasks, push_names};
 use call_cases::Request;
 use gp_base::limits::{MOST_SUBTHREADS, MOST_TURNS};
@@ -11,7 +12,7 @@ use one_thread::{PlainRun, Standing, Step, run_plain, stand_before};
 use run_counts::Counting;
 use run_views::{push_between, push_labelled, push_lock};
 use std::alloc::{AllocError, Global};
-use task_ast::{Head, Next, SyncOp};
+use task_ast::{Head, Next, Program, SyncOp};
 
 // How many threads have their control variables told, and of how many locks it is told who holds them.
 const MOST_TOLD: usize = 100;
@@ -133,6 +134,7 @@ pub fn push_stuck_details(
     match why {
         Why::Deadlock => {
             let heads = request.checked.program().heads.as_slice();
+            push_ended(alloc, text, order, standing)?;
             push_holders(alloc, text, heads, order, standing)?;
             push_waiting(text, standing)
         }
@@ -144,6 +146,37 @@ pub fn push_stuck_details(
             standing.nexts.len(),
             b" threads are there, the most there may be\n",
         ),
+    }
+}
+
+// The loops around a place of a thread.
+fn loops_of<'a>(
+    alloc: Global,
+    program: &'a Program,
+    tasks: &Tasks,
+    thread: ThreadNo,
+    place: Place,
+) -> Result<Vec<Loop<'a>>, AllocError> {
+    match tasks.task_of(program, thread) {
+        Some(task) => loops_at(alloc, task, place),
+        None => Ok(Vec::new(alloc)),
+    }
+}
+
+// Appends the control variables of a thread, and which of them the conditions of these loops name.
+fn push_values_of(
+    alloc: Global,
+    text: &mut Vec<u8>,
+    thread: ThreadNo,
+    standing: &Standing,
+    loops: &[Loop<'_>],
+) -> Result<(), AllocError> {
+    match standing.names.get(thread.0 as usize) {
+        Some(names) => {
+            push_names(text, thread, names.as_slice())?;
+            push_conditions(alloc, text, loops, names.as_slice())
+        }
+        None => Ok(()),
     }
 }
 
@@ -190,11 +223,11 @@ fn push_turns(
     text.extend_from_slice(b" in one subthread, last at the loop in line ")?;
     let line = counting.control_line(position);
     push_between(text, b"", line, b"")?;
-    if let Some(task) = tasks.task_of(request.checked.program(), step.thread) {
-        push_loops(alloc, text, task, line)?;
-    }
+    let program = request.checked.program();
+    let loops = loops_of(alloc, program, tasks, step.thread, Place::Loop(line))?;
+    push_outer(text, &loops)?;
     text.extend_from_slice(b"\n")?;
-    push_names_of(text, step.thread, standing)?;
+    push_values_of(alloc, text, step.thread, standing, &loops)?;
     push_limit(
         text,
         b"--turns",
@@ -205,22 +238,40 @@ fn push_turns(
     )
 }
 
-// Appends where a thread would begin one subthread more.
-fn push_one_more(
+// Appends where a thread would begin one subthread more, in which loops.
+fn push_place(
     text: &mut Vec<u8>,
-    request: &Request,
+    program: &Program,
     step: &Step,
     tasks: &Tasks,
+    loops: &[Loop<'_>],
 ) -> Result<(), AllocError> {
     push_labelled(text, b"; thread ", step.thread.0)?;
     if !matches!(step.begins.sync, SyncOp::Start) {
-        return push_between(text, b" line ", step.begins.line, b" would begin one more");
+        push_between(text, b" line ", step.begins.line, b" would begin one more")?;
+        return push_loops(text, loops);
     }
     text.extend_from_slice(b" would begin one more, at the beginning of task ")?;
-    match tasks.task_of(request.checked.program(), step.thread) {
+    match tasks.task_of(program, step.thread) {
         Some(task) => text.extend_from_slice(task.name.as_slice()),
         None => Ok(()),
     }
+}
+
+// Appends which subthread would have begun next, and the control variables of its thread.
+fn push_one_more(
+    alloc: Global,
+    text: &mut Vec<u8>,
+    program: &Program,
+    step: &Step,
+    tasks: &Tasks,
+    standing: &Standing,
+) -> Result<(), AllocError> {
+    let place = Place::Subthread(step.begins.line);
+    let loops = loops_of(alloc, program, tasks, step.thread, place)?;
+    push_place(text, program, step, tasks, &loops)?;
+    text.extend_from_slice(b"\n")?;
+    push_values_of(alloc, text, step.thread, standing, &loops)
 }
 
 // Appends which thread would begin a subthread more than there may be.
@@ -244,13 +295,10 @@ fn push_subthreads(
     } else {
         b" were begun"
     })?;
-    let next = more.order.get(position);
-    if let Some(step) = next {
-        push_one_more(text, request, step, tasks)?;
-    }
-    text.extend_from_slice(b"\n")?;
-    if let Some(step) = next {
-        push_names_of(text, step.thread, standing)?;
+    let program = request.checked.program();
+    match more.order.get(position) {
+        Some(step) => push_one_more(alloc, text, program, step, tasks, standing)?,
+        None => text.extend_from_slice(b"\n")?,
     }
     push_limit(
         text,

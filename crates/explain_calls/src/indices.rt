@@ -16,8 +16,8 @@ struct Here<'a> {
     env: &'a Env,
 }
 
-// The value of a control variable, or 0.
-fn value_of(names: &[(Name, i64)], name: &Name) -> i64 {
+/// The value of a control variable, or 0.
+pub fn value_of(names: &[(Name, i64)], name: &Name) -> i64 {
     for pair in names {
         if pair.0.as_slice() == name.as_slice() {
             return pair.1;

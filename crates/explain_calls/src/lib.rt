@@ -4,6 +4,7 @@
 
 mod counts;
 mod details;
+mod ended;
 mod indices;
 mod loops;
 mod reading;

@@ -1,27 +1,71 @@
-// The loops in which another one stands.
+// The loops around a place, and what their conditions name.
 
-use run_views::push_number;
+use crate::indices::value_of;
+use crate::threads::push_variable;
+use gp_base::Name;
+use run_views::{push_labelled, push_number};
 use std::alloc::{AllocError, Global};
-use task_ast::{Stmt, TaskText, What};
+use task_ast::{Expr, Stmt, TaskText, What};
 
-// Puts the lines of the loops around the first one of a line, the outermost first, behind others, if it is in this block.
-fn push_around(lines: &mut Vec<u32>, block: &[Stmt], line: u32) -> Result<bool, AllocError> {
+/// A loop.
+#[derive(Clone, Copy)]
+pub struct Loop<'a> {
+    pub line: u32,
+    pub condition: &'a Expr,
+}
+
+/// A place in a line: a loop, or a statement that begins a subthread.
+#[derive(Clone, Copy)]
+pub enum Place {
+    Loop(u32),
+    Subthread(u32),
+}
+
+// Whether a statement begins a subthread.
+fn begins_one(what: &What) -> bool {
+    match what {
+        What::Lock(_, _) => true,
+        What::Unlock(_, _) => true,
+        What::Fork(_, _, _) => true,
+        What::Join(_, _) => true,
+        What::Barrier(_) => true,
+        What::Settle(_, _) => true,
+        _ => false,
+    }
+}
+
+// Whether a statement is at a place.
+fn is_at(stmt: &Stmt, place: Place) -> bool {
+    match place {
+        Place::Loop(line) => stmt.line == line && matches!(stmt.what, What::While(_, _)),
+        Place::Subthread(line) => stmt.line == line && begins_one(&stmt.what),
+    }
+}
+
+// Puts the loops around the first statement at a place, the outermost first, behind others, if it is in this block. A loop at the place is the last of them.
+fn push_around<'a>(
+    loops: &mut Vec<Loop<'a>>,
+    block: &'a [Stmt],
+    place: Place,
+) -> Result<bool, AllocError> {
     for stmt in block {
         let found = match &stmt.what {
-            What::While(_, _) if stmt.line == line => true,
-            What::While(_, body) => {
-                lines.push(stmt.line)?;
-                let found = push_around(lines, body.as_slice(), line)?;
+            What::While(condition, body) => {
+                loops.push(Loop {
+                    line: stmt.line,
+                    condition,
+                })?;
+                let found = is_at(stmt, place) || push_around(loops, body.as_slice(), place)?;
                 if !found {
-                    lines.pop();
+                    loops.pop();
                 }
                 found
             }
             What::If(_, first, second) => {
-                push_around(lines, first.as_slice(), line)?
-                    || push_around(lines, second.as_slice(), line)?
+                push_around(loops, first.as_slice(), place)?
+                    || push_around(loops, second.as_slice(), place)?
             }
-            _ => false,
+            _ => is_at(stmt, place),
         };
         if found {
             return Ok(true);
@@ -30,27 +74,119 @@ fn push_around(lines: &mut Vec<u32>, block: &[Stmt], line: u32) -> Result<bool, 
     Ok(false)
 }
 
-/// Appends in which loops of a task the first loop of a line stands, if it stands in any. The error is that memory is out.
-pub fn push_loops(
+/// The loops of a task around the first statement at a place, the outermost first; a loop at the place is the last of them. The error is that memory is out.
+pub fn loops_at<'a>(
     alloc: Global,
-    text: &mut Vec<u8>,
-    task: &TaskText,
-    line: u32,
-) -> Result<(), AllocError> {
-    let mut lines = Vec::new(alloc);
-    if !push_around(&mut lines, task.body.as_slice(), line)? || lines.is_empty() {
+    task: &'a TaskText,
+    place: Place,
+) -> Result<Vec<Loop<'a>>, AllocError> {
+    let mut loops = Vec::new(alloc);
+    push_around(&mut loops, task.body.as_slice(), place)?;
+    Ok(loops)
+}
+
+/// Appends in which loops the last of these stands, if it stands in any. The error is that memory is out.
+pub fn push_outer(text: &mut Vec<u8>, loops: &[Loop<'_>]) -> Result<(), AllocError> {
+    let count = loops.len().saturating_sub(1);
+    if count == 0 {
         return Ok(());
     }
-    text.extend_from_slice(if lines.len() == 1 {
+    text.extend_from_slice(if count == 1 {
         b", in that of line "
     } else {
         b", in those of the lines "
     })?;
-    for (at, line) in lines.iter().enumerate() {
+    for (at, around) in loops.iter().take(count).enumerate() {
         if at > 0 {
             text.extend_from_slice(b", ")?;
         }
-        push_number(text, *line)?;
+        push_number(text, around.line)?;
+    }
+    Ok(())
+}
+
+/// Appends in which loop a place stands, and in which ones that does, if there are any. The error is that memory is out.
+pub fn push_loops(text: &mut Vec<u8>, loops: &[Loop<'_>]) -> Result<(), AllocError> {
+    if let Some(inner) = loops.get(loops.len().saturating_sub(1)) {
+        push_labelled(text, b", in the loop in line ", inner.line)?;
+    }
+    push_outer(text, loops)
+}
+
+fn is_among(names: &[&Name], name: &Name) -> bool {
+    for other in names {
+        if other.as_slice() == name.as_slice() {
+            return true;
+        }
+    }
+    false
+}
+
+// Puts the control variables that an expression names behind others, each once.
+fn put_names<'a>(names: &mut Vec<&'a Name>, e: &'a Expr) -> Result<(), AllocError> {
+    match e {
+        Expr::Ctl(name) => {
+            if !is_among(names, name) {
+                names.push(name)?;
+            }
+            Ok(())
+        }
+        Expr::Cell(_, row, field) => {
+            put_names(names, row)?;
+            put_names(names, field)
+        }
+        Expr::Neg(a) => put_names(names, a),
+        Expr::Not(a) => put_names(names, a),
+        Expr::Chain(first, links) => {
+            put_names(names, first)?;
+            for link in links.as_slice() {
+                put_names(names, &link.1)?;
+            }
+            Ok(())
+        }
+        _ => Ok(()),
+    }
+}
+
+// Appends the control variables that the condition of a loop names, with their values.
+fn push_condition(
+    alloc: Global,
+    text: &mut Vec<u8>,
+    around: Loop<'_>,
+    values: &[(Name, i64)],
+) -> Result<(), AllocError> {
+    let mut names = Vec::new(alloc);
+    put_names(&mut names, around.condition)?;
+    push_labelled(text, b"loop in line ", around.line)?;
+    if names.is_empty() {
+        return text.extend_from_slice(b": its condition names no control variable\n");
+    }
+    let mut between: &[u8] = b": ";
+    for name in &names {
+        push_variable(text, between, name, value_of(values, name))?;
+        between = b", ";
+    }
+    text.extend_from_slice(b"\n")
+}
+
+/// Appends that the condition of one of these loops may stay true, and the control variables that each names, with these values; nothing where there is no
+/// loop. The error is that memory is out.
+pub fn push_conditions(
+    alloc: Global,
+    text: &mut Vec<u8>,
+    loops: &[Loop<'_>],
+    values: &[(Name, i64)],
+) -> Result<(), AllocError> {
+    if loops.is_empty() {
+        return Ok(());
+    }
+    text.extend_from_slice(if loops.len() == 1 {
+        b"hint: the condition of this loop may stay true:\n"
+    } else {
+        b"hint: the condition of one of these loops may stay true:\n"
+    })?;
+    for around in loops {
+        push_condition(alloc, text, *around, values)?;
     }
     Ok(())
 }

@@ -52,8 +52,8 @@ fn main_number(program: &Program) -> u32 {
     number
 }
 
-// Appends a variable with its value.
-fn push_variable(
+/// Appends a variable with its value.
+pub fn push_variable(
     text: &mut Vec<u8>,
     between: &[u8],
     name: &Name,

@@ -47,6 +47,11 @@ const OPTIONS: [Known; 5] = [
 
 const CREWS: [&[u8]; 5] = [b"one", b"wave", b"board", b"steal", b"pipe"];
 
+// The commands of `gprs`, of which `explain` takes none.
+const COMMANDS: [&[u8]; 8] = [
+    b"run", b"one", b"check", b"log", b"resume", b"ckpt", b"audit", b"soak",
+];
+
 // Why words are not taken: the first of them that is not, or what they lack.
 #[derive(Clone, Copy)]
 enum Untaken<'a> {
@@ -63,6 +68,7 @@ enum Untaken<'a> {
         most: u64,
     },
     NoCrew(&'a [u8]),
+    Command(&'a [u8]),
     SecondProgram(&'a [u8]),
     NoProgram,
 }
@@ -117,6 +123,26 @@ fn is_crew(text: &[u8]) -> bool {
         }
     }
     false
+}
+
+fn is_command(text: &[u8]) -> bool {
+    let commands: [&[u8]; 8] = COMMANDS;
+    for command in &commands {
+        if *command == text {
+            return true;
+        }
+    }
+    false
+}
+
+// The word that stands where the program's name is looked for, if it is a command of `gprs`.
+fn first_command<'a>(words: &'a [String]) -> Option<Untaken<'a>> {
+    let word = words.get(1)?.as_str().as_bytes();
+    if is_command(word) {
+        Some(Untaken::Command(word))
+    } else {
+        None
+    }
 }
 
 // Why a value is not one of its option.
@@ -241,11 +267,16 @@ impl Read {
     }
 }
 
-// The first of the words after `explain` that is not taken, or what they lack.
+// The first of the words after `explain` that is not taken, or what they lack. A command of `gprs` is told of before all others, since what follows it is read
+// by its rules.
 fn first_untaken<'a>(
     alloc: Global,
     words: &'a [String],
 ) -> Result<Option<Untaken<'a>>, AllocError> {
+    let command = first_command(words);
+    if command.is_some() {
+        return Ok(command);
+    }
     let mut read = Read {
         program: false,
         given: Vec::new(alloc),
@@ -304,6 +335,12 @@ fn push_untaken(text: &mut Vec<u8>, untaken: &Option<Untaken<'_>>) -> Result<(),
             b"`--crew` takes one, wave, board, steal or pipe, and not `",
             word,
             b"`",
+        ),
+        Some(Untaken::Command(word)) => push_word(
+            text,
+            b"`",
+            word,
+            b"` is a command of gprs: explain takes a program right away, and judges the words of `run` alone",
         ),
         Some(Untaken::SecondProgram(word)) => push_word(
             text,

@@ -101,6 +101,56 @@ barrier step: 2 of 3 threads are there: 0 1
 arithmetic: exact in every line that ran
 ";
 
+// The second of three threads takes one turn at the barrier, and the others would take two.
+const SOONER: &str = "barrier step(3);
+task t(n) {
+  while n > 0 {
+    barrier step;
+    n = n - 1;
+  }
+}
+task main() {
+  fork t(2);
+  fork t(1);
+  fork t(2);
+  join 1;
+}
+";
+
+const SOONER_TOLD: &str = "stuck deadlock thread 0 line 12
+thread 0 line 12 waits for thread 1 to end
+thread 1 line 4 waits for barrier step
+thread 3 line 4 waits for barrier step
+barrier step: 2 of 3 threads are there: 1 3
+hint: thread 2 has ended, after line 4
+thread 1: n = 1
+thread 3: n = 1
+10 subthreads, 4 threads, 0 locks taken; at most 3 subthreads side by side
+arithmetic: exact in every line that ran
+";
+
+const ENDED: &str = "barrier step(2);
+task t() { }
+task u() { barrier step; }
+task main() {
+  var i;
+  while i < 8 {
+    fork t();
+    i = i + 1;
+  }
+  fork u();
+}
+";
+
+// Of nine threads that have ended eight are told; those of task t have no synchronisation.
+const ENDED_TOLD: &str = "stuck deadlock thread 9 line 3
+thread 9 line 3 waits for barrier step
+barrier step: 1 of 2 threads is there: 9
+hint: thread 0 has ended, after line 10; thread 1; thread 2; thread 3; thread 4; thread 5; thread 6; thread 7; and 1 more
+19 subthreads, 10 threads, 0 locks taken; at most 2 subthreads side by side
+arithmetic: exact in every line that ran
+";
+
 const ITSELF: &str = "task main() { join 0; }";
 
 const ITSELF_TOLD: &str = "stuck deadlock thread 0 line 1
@@ -145,7 +195,9 @@ thread -1 is joined; there is 1 thread, 0
 arithmetic: exact in every line that ran
 ";
 
-const STUCK: [Row; 9] = [
+const STUCK: [Row; 11] = [
+    ("explain p.gp", SOONER, "", 5, SOONER_TOLD, ""),
+    ("explain p.gp", ENDED, "", 5, ENDED_TOLD, ""),
     ("explain p.gp", AGAIN, "", 5, AGAIN_TOLD, ""),
     ("explain p.gp", ALONE, "", 5, ALONE_TOLD, ""),
     ("explain p.gp", DEADLOCK, "", 5, TWO_TOLD, ""),
@@ -278,6 +330,8 @@ const LOOP: &str = "task main() { while 1 { } }";
 
 const LOOP_TOLD: &str = "spent 0
 thread 0 took 10 loop turns in one subthread, last at the loop in line 1
+hint: the condition of this loop may stay true:
+loop in line 1: its condition names no control variable
 hint: --turns allows up to 10000000, for a loop that ends
 1 subthread, 1 thread, 0 locks taken; at most 1 subthread side by side
 arithmetic: exact in every line that ran
@@ -295,6 +349,9 @@ const NESTED: &str = "task main() {
 const NESTED_TOLD: &str = "spent 0
 thread 0 took 10 loop turns in one subthread, last at the loop in line 5, in that of line 3
 thread 0: i = 2
+hint: the condition of one of these loops may stay true:
+loop in line 3: i = 2
+loop in line 5: i = 2
 hint: --turns allows up to 10000000, for a loop that ends
 1 subthread, 1 thread, 0 locks taken; at most 1 subthread side by side
 arithmetic: exact in every line that ran
@@ -318,6 +375,10 @@ const DEEP: &str = "task main() {
 const DEEP_TOLD: &str = "spent 0
 thread 0 took 4 loop turns in one subthread, last at the loop in line 8, in those of the lines 3, 5
 thread 0: i = 2, j = 0
+hint: the condition of one of these loops may stay true:
+loop in line 3: its condition names no control variable
+loop in line 5: i = 2
+loop in line 8: j = 0
 hint: --turns allows up to 10000000, for a loop that ends
 1 subthread, 1 thread, 0 locks taken; at most 1 subthread side by side
 arithmetic: exact in every line that ran
@@ -332,6 +393,8 @@ task main() {
 
 const OTHER_TOLD: &str = "spent 2
 thread 1 took 3 loop turns in one subthread, last at the loop in line 1
+hint: the condition of this loop may stay true:
+loop in line 1: its condition names no control variable
 hint: --turns allows up to 10000000, for a loop that ends
 3 subthreads, 2 threads, 0 locks taken; at most 1 subthread side by side
 arithmetic: exact in every line that ran
@@ -347,9 +410,40 @@ task main() {
 ";
 
 const MANY_TOLD: &str = "spent 5
-5 subthreads were begun; thread 0 line 4 would begin one more
+5 subthreads were begun; thread 0 line 4 would begin one more, in the loop in line 3
+hint: the condition of this loop may stay true:
+loop in line 3: its condition names no control variable
 hint: --subthreads allows up to 200000, for a batch that ends
 5 subthreads, 1 thread, 2 locks taken; at most 1 subthread side by side
+arithmetic: exact in every line that ran
+";
+
+// The condition of the inner loop names k twice.
+const ROUNDS: &str = "feed moves[2] from \"moves.csv\";
+lock l[1];
+task main() {
+  var i, k, n;
+  while rows(moves) > i {
+    k = 0;
+    while k < moves[n, 1] and not (k == -i - 1) {
+      if k {
+        lock l[0];
+        unlock l[0];
+      }
+      k = k + 1;
+    }
+  }
+}
+";
+
+const ROUNDS_TOLD: &str = "spent 2
+2 subthreads were begun; thread 0 line 10 would begin one more, in the loop in line 7, in that of line 5
+thread 0: i = 0, k = 1, n = 0
+hint: the condition of one of these loops may stay true:
+loop in line 5: i = 0
+loop in line 7: k = 1, n = 0, i = 0
+hint: --subthreads allows up to 200000, for a batch that ends
+2 subthreads, 1 thread, 1 lock taken; at most 1 subthread side by side
 arithmetic: exact in every line that ran
 ";
 
@@ -375,7 +469,15 @@ hint: --subthreads allows up to 200000, for a batch that ends
 arithmetic: exact in every line that ran
 ";
 
-const SPENT: [Row; 7] = [
+const SPENT: [Row; 8] = [
+    (
+        "explain p.gp --subthreads 2",
+        ROUNDS,
+        "1,2\n",
+        6,
+        ROUNDS_TOLD,
+        "",
+    ),
     (
         "explain p.gp --subthreads 2",
         BEGINS,

@@ -15,7 +15,23 @@ feed f[1] from \"/data/f.csv\";
 task main() { }
 ";
 
-const WORDS: [Row; 19] = [
+const WORDS: [Row; 21] = [
+    (
+        "explain check p.gp --subthreads 5",
+        EMPTY,
+        "",
+        2,
+        "hint: `check` is a command of gprs: explain takes a program right away, and judges the words of `run` alone\nhint: gprs_view explain PROGRAM [--faults FILE] [--turns N] [--subthreads N] [--crew CREW] [--workers N]\n",
+        USAGE,
+    ),
+    (
+        "explain run p.gp",
+        EMPTY,
+        "",
+        2,
+        "hint: `run` is a command of gprs: explain takes a program right away, and judges the words of `run` alone\nhint: gprs_view explain PROGRAM [--faults FILE] [--turns N] [--subthreads N] [--crew CREW] [--workers N]\n",
+        USAGE,
+    ),
     (
         "explain p.gp --trace",
         EMPTY,
