@@ -1,10 +1,10 @@
 -- Faults that stand by position and then by attempt: the least that is struck, and the mask of an attempt.
-use Rattle.std.proofs.Common.{w64, to_z, of_z, ◌≡◌, inl, inr, ℕ, zero, suc, ◌+◌, ◌-◌, ◌<◌, ◌≤◌, min, Bool, true, false, cond, ◌&&◌, nat_eq, List, [], ◌∷◌, length, get_or, slice_get, All, Contains, Option, Some, None, refl, sym, ap, subst, ◌∙◌, arith}
-use Rattle.std.specs.Prelude.{pos, FitsSigned}
+use Rattle.std.proofs.Common.{w64, to_z, of_z, ◌≡◌, inl, inr, ℕ, zero, suc, ◌+◌, ◌-◌, ◌<◌, ◌≤◌, min, max, Bool, true, false, cond, ◌&&◌, ◌||◌, nat_eq, nat_le, List, [], ◌∷◌, length, get_or, slice_get, All, Contains, Option, Some, None, refl, sym, ap, subst, ◌∙◌, arith}
+use Rattle.std.specs.Prelude.{◌⊎◌, pos, FitsSigned}
 use Rattle.std.specs.List.{AllWithin, IsDistinct}
 use Rattle.std.specs.List.Sorted.{IsPermutation, IsNonDecreasingBy}
 use Rattle.std.specs.Option.{option_map_or}
-use Rattle.std.proofs.lemmas.Bool.{false≢true, both_ways, eqb-true, eq-eqb, and_parts, cases_lt}
+use Rattle.std.proofs.lemmas.Bool.{false≢true, both_ways, eqb-true, eq-eqb, ne_eqb, and_parts, cases_lt}
 use Rattle.std.proofs.lemmas.Int.{to_z-of_z}
 use Rattle.std.proofs.lemmas.List.{get_or_default}
 use Rattle.std.proofs.lemmas.List.Elements.{All-get_or}
@@ -147,6 +147,15 @@ missed-more test faults i d l missed f k e low high =
           ap test (ap (λ j. get_or faults j e) same ∙ get_or_default faults i e d l) ∙ f)
     ]
 
+-- none passes at the places of two walks, of which the second begins where the first ends
+pub missed-then : (test : Fault → Bool) (faults : List Fault) (i j : ℕ) → Misses test faults 0 i → Misses test faults i j
+    → Misses test faults 0 j
+missed-then test faults i j first second k d low high =
+    elim (cases_lt k i) [
+      | inl before ↦ first k d low before
+      | inr after ↦ second k d after high
+    ]
+
 -- a fault whose position is not in the list does not strike
 unlisted : (any : Bool) (entries : List Entry) (front : ℕ) (fault : Fault) → entry_at entries fault.pos ≡ None
     → strikes any entries front fault ≡ false
@@ -249,20 +258,61 @@ unmasked (fault ∷ rest) p attempt free =
         free (fault, Contains-head fault rest, eqb-true fault.pos p h.0, eqb-true fault.attempt attempt h.1))
     go false e ih = ih
 
+-- faults that rise by position and attempt
+module _ (list : List Fault) (ranged : All IsInRange list) (rises : IsNonDecreasingBy rank list) where
+  few : (k : ℕ) (d : Fault) → k < length list → (get_or list k d).attempt < 4294967296
+  few k d l = (All-get_or IsInRange list k d l ranged).attempt
+
+  pub by-position : IsNonDecreasingBy (λ fault. fault.pos) list
+  by-position i j d le l =
+      let first = few i d (omega arith) in
+      let later = few j d l in
+      let up : key_of (get_or list i d).pos (get_or list i d).attempt ≤ key_of (get_or list j d).pos (get_or list j d).attempt
+      = rises i j d le l in
+      omega arith
+
+  -- from a fault whose position has an entry on, up to the first that is not before an attempt: the faults between name no present attempt,
+  -- where that attempt is the present one, or that of the fault is later than it
+  module _ (any : Bool) (entries : List Entry) (front at stop place : ℕ) (d : Fault) (e : Entry)
+      (within : at < length list) (most : place ≤ length list) (small : stop < 4294967296)
+      (is_there : entry_at entries (get_or list at d).pos ≡ Some e)
+      (before : AllWithin (λ fault. rank fault < key_of (get_or list at d).pos stop) list 0 place)
+      (far : (stop ≡ e.attempt) ⊎ (e.attempt < (get_or list at d).attempt)) where
+    between : (k : ℕ) → at + 1 ≤ k → k < place → ((get_or list k d).pos ≡ (get_or list at d).pos)
+        × ((get_or list at d).attempt ≤ (get_or list k d).attempt) × ((get_or list k d).attempt < stop)
+    between k low high =
+        let first = few at d within in
+        let here = few k d (omega arith) in
+        let up : key_of (get_or list at d).pos (get_or list at d).attempt ≤ key_of (get_or list k d).pos (get_or list k d).attempt
+        = rises at k d (omega arith) (omega arith) in
+        let down : key_of (get_or list k d).pos (get_or list k d).attempt < key_of (get_or list at d).pos stop
+        = before k d (omega arith) high in
+        (omega arith, omega arith, omega arith)
+
+    apart : (attempt : ℕ) → (get_or list at d).attempt ≤ attempt → attempt < stop → attempt ≡ e.attempt → ⊥
+    apart attempt up down same =
+        elim far [
+          | inl present ↦ omega arith
+          | inr later ↦ omega arith
+        ]
+
+    misnamed : (fault : Fault) → fault.pos ≡ (get_or list at d).pos → (fault.attempt ≡ e.attempt → ⊥) → strikes any entries front fault ≡ false
+    misnamed fault same other =
+        ap (strikes_entry any front fault) (ap (entry_at entries) same ∙ is_there)
+        ∙ ap (λ b. b && (any || nat_le (e.begun + fault.delay) front)) (ne_eqb fault.attempt e.attempt other)
+
+    pub passed-over : Misses (strikes any entries front) list (at + 1) (max place (at + 1))
+    passed-over k x low high =
+        let is = between k low (omega arith) in
+        ap (strikes any entries front) (get_or_default list k x d (omega arith))
+        ∙ misnamed (get_or list k d) is.0 (apart (get_or list k d).attempt is.1 is.2)
+
 module _ (faults : Faults) (list : List Fault) (order : AreInOrder faults.list list) where
-  in-range : All IsInRange list
+  pub in-range : All IsInRange list
   in-range = All-permutation IsInRange faults.list list order.same faults.in_range
 
   short : (k : ℕ) (d : Fault) → k < length list → (get_or list k d).attempt < 4294967296
   short k d l = (All-get_or IsInRange list k d l in-range).attempt
-
-  pub positions-rise : IsNonDecreasingBy (λ fault. fault.pos) list
-  positions-rise i j d le l =
-      let first = short i d (omega arith) in
-      let later = short j d l in
-      let up : key_of (get_or list i d).pos (get_or list i d).attempt ≤ key_of (get_or list j d).pos (get_or list j d).attempt
-      = order.rises i j d le l in
-      omega arith
 
   -- none before the first entry strikes
   pub none-before : (any : Bool) (entries : List Entry) (front low : ℕ) → IsInRow entries → low ≤ length list

@@ -1,8 +1,9 @@
 // Which position a fault strikes, and with which mask.
 
-ghost use Rattle.std.specs.Prelude.{◌≡◌, ◌<◌, ◌≤◌, [], false, length, MatchOption};
+ghost use Rattle.std.specs.Prelude.{◌≡◌, ◌+◌, ◌<◌, ◌≤◌, ℕ, Bool, All, [], false, length, MatchOption};
 ghost use Rattle.std.specs.List.{AllWithin};
 ghost use Rattle.std.specs.List.Sorted.{IsNonDecreasingBy};
+ghost use Rattle.gp_base.specs.Faults.{IsInRange};
 ghost use Rattle.dependence.specs.Restarts.{mask_of};
 ghost use Rattle.dependence.specs.meaning.Restarts.{least_struck};
 ghost use Rattle.reorder_list.specs.Entries.{IsInRow, first_position};
@@ -83,8 +84,31 @@ fn oldest(rol: &Rol) -> Option<Pos>
     }
 }
 
-// The position of the first fault from a place on that strikes, where none does before that place. The walk ends past
-// the last entry.
+// The place of the next fault after that at a place which may strike. Those between name other attempts of its position
+// than the present one.
+fn next_place(rol: &Rol, faults: &[Fault], at: usize) -> usize
+    requires rises { IsNonDecreasingBy rank faults.now }
+    requires in_range { All IsInRange faults.now }
+    requires within { at < length faults.now }
+    ensures later { at < result }
+    ensures within { result ≤ length faults.now }
+    ensures passed { (any : Bool) (front : ℕ) → AllWithin (λ fault. strikes any rol.now.entries front fault ≡ false) faults.now (at + 1) result }
+{
+    let fault = &faults[at];
+    let Some(entry) = rol.get(Pos(fault.pos)) else {
+        return at + 1;
+    };
+    if fault.attempt < entry.attempt {
+        return place_from(faults, fault.pos, entry.attempt).max(at + 1);
+    }
+    if fault.attempt > entry.attempt {
+        return place_from(faults, fault.pos, u32::MAX).max(at + 1);
+    }
+    at + 1
+}
+
+// The position of the first fault from a place on that strikes, where none does before that place. The walk passes over
+// faults that name attempts which are not the present ones, and ends past the last entry.
 fn first_struck(
     rol: &Rol,
     faults: &[Fault],
@@ -95,12 +119,14 @@ fn first_struck(
 ) -> Option<u32>
     requires row { IsInRow rol.now.entries }
     requires first { first ≡ first_position rol.now.entries }
-    requires rises { IsNonDecreasingBy (λ (fault : Fault). fault.pos) faults.now }
+    requires rises { IsNonDecreasingBy rank faults.now }
+    requires in_range { All IsInRange faults.now }
     requires within { low ≤ length faults.now }
     requires before { AllWithin (λ fault. strikes any rol.now.entries front fault ≡ false) faults.now 0 low }
     ensures { IsLeastOf (strikes any rol.now.entries front) faults.now result }
 {
-    for at in low..faults.len() {
+    let mut at = low;
+    'striking: while at < faults.len() {
         let fault = &faults[at];
         if fault.pos.saturating_sub(first.0) as usize >= rol.len() {
             return None;
@@ -108,6 +134,7 @@ fn first_struck(
         if strikes(rol, fault, front, any) {
             return Some(fault.pos);
         }
+        at = next_place(rol, faults, at);
     }
     None
 }

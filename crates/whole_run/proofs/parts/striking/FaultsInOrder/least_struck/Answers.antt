@@ -1,12 +1,12 @@
-use Rattle.std.proofs.Common.{◌≡◌, ◌∙◌, ◌<◌, [], MatchOption, sym, subst}
+use Rattle.std.proofs.Common.{◌≡◌, ◌∙◌, ◌<◌, [], All, MatchOption, sym, subst}
 use Rattle.std.specs.List.{AllWithin}
 use Rattle.std.specs.List.Sorted.{IsNonDecreasingBy}
-use Rattle.gp_base.specs.declared.fault.Fault.{Fault}
 use Rattle.gp_base.specs.declared.fault.Faults.{Faults}
+use Rattle.gp_base.specs.Faults.{IsInRange}
 use Rattle.dependence.specs.meaning.Restarts.{least_struck}
 use Rattle.reorder_list.specs.Entries.{first_position}
 use Rattle.whole_run.specs.inner.Striking.{strikes, rank, key_of, IsLeastOf}
-use Rattle.whole_run.proofs.InOrder.{Misses, none-empty, positions-rise, none-before, least-moved, least-is}
+use Rattle.whole_run.proofs.InOrder.{Misses, in-range, none-empty, none-before, least-moved, least-is}
 use Rattle.whole_run.proofs.parts.striking.FaultsInOrder.least_struck.Goals as goal
 
 pub returns-in_default : goal.returns-in_default
@@ -16,9 +16,11 @@ returns-in_default c =
     (subst (λ o. MatchOption o (entries ≡ []) (λ p. p ≡ first_position entries)) c.in_default.is c.oldest.ensures)
 
 pub first_struck-requires-clause-rises : goal.first_struck-requires-clause-rises
-first_struck-requires-clause-rises c =
-    subst (IsNonDecreasingBy (λ (fault : Fault). fault.pos)) (sym c.as_slice-faults.ensures)
-    (positions-rise c.self.inside.given.value c.self.inside.list c.self.invariant)
+first_struck-requires-clause-rises c = subst (IsNonDecreasingBy rank) (sym c.as_slice-faults.ensures) c.self.invariant.rises
+
+pub first_struck-requires-clause-in_range : goal.first_struck-requires-clause-in_range
+first_struck-requires-clause-in_range c =
+    subst (All IsInRange) (sym c.as_slice-faults.ensures) (in-range c.self.inside.given.value c.self.inside.list c.self.invariant)
 
 pub first_struck-requires-clause-before : goal.first_struck-requires-clause-before
 first_struck-requires-clause-before c =
