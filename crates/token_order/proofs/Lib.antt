@@ -2,8 +2,12 @@ pub mod Barriers
 pub mod Holds
 pub mod Inside
 pub mod Joins
+pub mod Outcomes
 pub mod Owned
 pub mod Rings
 pub mod Settling
+pub mod Shown
+pub mod Stretches
 pub mod Turning
 pub mod Waiting
+pub mod Ways

@@ -11,6 +11,9 @@ use Rattle.token_order.specs.declared.held.Held.{Held}
 use Rattle.token_order.specs.Turned.{Answered, LeavesRoom, is_issue}
 use Rattle.token_order.specs.Owning.{noted}
 use Rattle.token_order.specs.Standing.{spare_of}
+use Rattle.token_order.specs.declared.spans.Span.{Span}
+use Rattle.token_order.specs.Spans.{covers, shown, Passes, no_pass, one_pass}
+use Rattle.token_order.proofs.Shown.{length_shown}
 use Rattle.token_order.specs.View.{table, seat_of}
 
 -- the owners after a turn
@@ -33,16 +36,38 @@ same_room before after held there seats capacity change =
     ∙ ap (λ n. cond (is_none held.change) (n - vec_len after.seats) 0) capacity
     ∙ ap (λ n. cond (is_none held.change) (vec_capacity before.seats - n) 0) lengths
 
+lengths : (before after : Table) (span later : Span) → length (shown later after).seats ≡ length (shown span before).seats
+    → length after.seats ≡ length before.seats
+lengths before after span later e =
+    sym (length_shown (covers later) after.seats) ∙ e ∙ length_shown (covers span) before.seats
+
 -- all but an issue leave the room as it was
-pub room_left : (before after : Threads) (held there : Held) (result : Turn)
-    → Answered (turn (table before)) (table before) result (table after)
+pub room_left : (before after : Threads) (span later : Span) (held there : Held) (result : Turn)
+    → Answered (turn (shown span (table before))) (shown span (table before)) result (shown later (table after))
     → vec_capacity after.seats ≡ vec_capacity before.seats → (is_issue result ≡ false → there.change ≡ held.change)
     → LeavesRoom result (spare_of before held) (spare_of after there)
-room_left before after held there (here.Issue t next child) e capacity change = tt
-room_left before after held there here.Pass e capacity change =
-    same_room before after held there (pass_law (table before) (table after) e).threads capacity (change refl)
-room_left before after held there (here.Settles t) h capacity change = absurd h
-room_left before after held there (here.Needs t) h capacity change =
-    same_room before after held there (ap (λ table. length table.seats) h.1) capacity (change refl)
-room_left before after held there (here.Ended e) h capacity change =
-    same_room before after held there (ap (λ table. length table.seats) h.1) capacity (change refl)
+room_left before after span later held there (here.Issue t next child) e capacity change = tt
+room_left before after span later held there here.Pass e capacity change =
+    same_room before after held there
+    (lengths (table before) (table after) span later (pass_law (shown span (table before)) (shown later (table after)) e).threads) capacity (change refl)
+room_left before after span later held there (here.Settles t) h capacity change = absurd h
+room_left before after span later held there (here.Needs t) h capacity change =
+    same_room before after held there
+    (lengths (table before) (table after) span later (ap (λ (there : Table). length there.seats) h.1)) capacity (change refl)
+room_left before after span later held there (here.Ended e) h capacity change =
+    same_room before after held there
+    (lengths (table before) (table after) span later (ap (λ (there : Table). length there.seats) h.1)) capacity (change refl)
+
+pub passes_owners : (before after : Table) → Passes before after → after.owners ≡ before.owners
+passes_owners before after no_pass = refl
+passes_owners before after (one_pass {there = there} some e) = (pass_law there after e).owners ∙ passes_owners before there some
+
+passes_threads : (before after : Table) → Passes before after → length after.seats ≡ length before.seats
+passes_threads before after no_pass = refl
+passes_threads before after (one_pass {there = there} some e) = (pass_law there after e).threads ∙ passes_threads before there some
+
+pub passes_room : (before after : Threads) (span later : Span) (held : Held) → Passes (shown span (table before)) (shown later (table after))
+    → vec_capacity after.seats ≡ vec_capacity before.seats → spare_of after held ≡ spare_of before held
+passes_room before after span later held passes capacity =
+    same_room before after held held
+    (lengths (table before) (table after) span later (passes_threads (shown span (table before)) (shown later (table after)) passes)) capacity refl

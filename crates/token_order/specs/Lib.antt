@@ -1,4 +1,5 @@
 pub mod Owning
+pub mod Spans
 pub mod Standing
 pub mod Turned
 pub mod View

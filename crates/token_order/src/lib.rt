@@ -4,6 +4,7 @@
 mod held;
 mod ring;
 mod rules;
+mod spans;
 mod threads;
 
 pub use ring::Ring;

@@ -7,11 +7,13 @@ ghost use Rattle.task_ast.specs.Table.{next_of, learning};
 ghost use Rattle.task_ast.specs.meaning.Table.{owned_from};
 ghost use Rattle.task_ast.specs.meaning.Turn.{owners_after};
 ghost use Rattle.task_ast.specs.laws.Threads.{ahead};
+ghost use Rattle.token_order.specs.Spans.{Passes};
 ghost use Rattle.token_order.specs.Turned.{Turned, LeavesRoom, is_let, cleared_after};
 ghost use Rattle.token_order.specs.View.{awaited};
 
 use crate::held::Held;
 use crate::rules::Turn;
+use crate::spans::Spans;
 use crate::threads::Threads;
 use gp_base::{LockNo, Pos, Seq, ThreadNo};
 use std::alloc::{AllocError, Global};
@@ -23,19 +25,21 @@ use task_ast::{Next, SyncOp};
 #[derive(Drop)]
 pub struct Ring {
     threads: Threads,
+    spans: Spans,
     held: Held,
     cleared: bool,
 }
 
 impl Model for Ring {
     ghost use Rattle.token_order.specs.View.{Roomy, table};
+    ghost use Rattle.token_order.specs.Spans.{shown};
     ghost use Rattle.token_order.specs.Standing.{RingStands, spare_of};
 
     ghost Value = { Roomy };
 
-    ghost view = { λ r. record { table = table r.threads; spare = spare_of r.threads r.held; cleared = r.cleared } };
+    ghost view = { λ r. record { table = shown r.spans.span (table r.threads); spare = spare_of r.threads r.held; cleared = r.cleared } };
 
-    ghost invariant = { λ r. RingStands r.threads r.held };
+    ghost invariant = { λ r. RingStands r.threads r.spans r.held };
 }
 
 // Whether a settle is let after the turn.
@@ -65,6 +69,7 @@ impl Ring {
         let held = Held::new(alloc, locks as usize)?;
         Ok(Ring {
             threads,
+            spans: Spans::new(alloc)?,
             held,
             cleared: false,
         })
@@ -85,7 +90,18 @@ impl Ring {
         ensures cleared { self.new.cleared ≡ self.old.cleared }
     {
         self.threads.seats.reserve(1)?;
+        self.spans.reserve(self.threads.seats.len())?;
         self.held.apply_change()
+    }
+
+    /// The threads to which the token comes next pass, as far as they wait at barriers, many of them in one step. Takes no
+    /// memory.
+    pub fn pass_waiting(&mut self)
+        ensures passes { Passes self.old.table self.new.table }
+        ensures spare { self.new.spare ≡ self.old.spare }
+        ensures cleared { self.new.cleared ≡ self.old.cleared }
+    {
+        self.threads.pass_waiting(&mut self.spans);
     }
 
     /// Lets the next issue begin with a settle. Takes no memory.
@@ -108,11 +124,11 @@ impl Ring {
         self.threads.shorten(0);
         self.threads.shorten(start);
         if !self.cleared {
-            if let Some(thread) = self.threads.settling() {
+            if let Some(thread) = self.threads.settling_in(self.spans.span) {
                 return Turn::Settles(ThreadNo(thread));
             }
         }
-        let turn = self.threads.turn();
+        let turn = self.threads.turn_in(&mut self.spans);
         self.held.note(&turn);
         self.cleared = cleared_after(&turn, self.cleared);
         turn
@@ -125,6 +141,7 @@ impl Ring {
         ensures spare { self.new.spare ≡ self.old.spare }
         ensures cleared { self.new.cleared ≡ self.old.cleared }
     {
+        self.spans.uncover(&self.threads, thread.0);
         self.threads.learn(thread.0, next);
     }
 
@@ -133,11 +150,7 @@ impl Ring {
     pub fn ahead(&self) -> Option<ThreadNo>
         ensures { result ≡ option_map (λ tried. tried.0) (ahead self.now.table) }
     {
-        let t = self.threads.token_at()?;
-        let seat = &self.threads.seats[t as usize];
-        if seat.next.is_none() || seat.passed {
-            return None;
-        }
+        let t = self.threads.ahead_in(self.spans.span)?;
         Some(ThreadNo(t))
     }
 
@@ -154,21 +167,14 @@ impl Ring {
     pub fn next_of(&self, thread: ThreadNo) -> Option<&Next>
         ensures { option_copied result ≡ next_of self.now.table thread }
     {
-        self.threads.seats.get(thread.0 as usize)?.next.as_ref()
+        self.threads.next_of(thread.0)
     }
 
     /// The position of the thread's last subthread, where the next synchronisation is not known.
     pub fn awaits(&self, thread: ThreadNo) -> Option<Pos>
         ensures { result ≡ awaited self.now.table thread }
     {
-        let seat = self.threads.seats.get(thread.0 as usize)?;
-        if seat.next.is_some() {
-            return None;
-        }
-        match seat.last {
-            Some(position) => Some(Pos(position)),
-            None => None,
-        }
+        self.threads.awaits(thread.0)
     }
 
     /// The locks that the thread holds once it has performed the synchronisation, in rising order. The error is that

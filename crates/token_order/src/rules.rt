@@ -346,8 +346,8 @@ impl Threads {
         Turn::Pass
     }
 
-    // Every thread that has not ended has passed.
-    fn deadlock(&self) -> Turn
+    /// Every thread that has not ended has passed.
+    pub fn deadlock(&self) -> Turn
         requires walks { WalksStand self.now }
         requires few { length self.now.seats.items ≤ MOST_THREADS }
         ensures { Answered (deadlocked (look (table self.now) (numbers 0 (length (table self.now).seats)))) (table self.now) result (table self.now) }
@@ -511,8 +511,8 @@ fn release(seats: &mut [Seat], barrier: u32)
     }
 }
 
-// Whether the thread has not arrived.
-fn is_away(seat: &Seat) -> bool
+/// Whether the thread has not arrived.
+pub fn is_away(seat: &Seat) -> bool
     ensures { result ≡ Rattle.task_ast.specs.meaning.Turn.is_away (seat_of seat.now).stand }
 {
     matches!(seat.stand, Stand::Away)

@@ -1,15 +1,17 @@
 // The threads, and the one that the token comes to.
 
-ghost use Rattle.std.specs.Prelude.{◌≡◌, ℕ, ◌<◌, ◌≤◌, ◌-◌, false, length, map, Option, Some, None, IfSome, IfOk, replicate, slice_get, vec_capacity};
+ghost use Rattle.std.specs.Prelude.{◌≡◌, ℕ, ◌<◌, ◌≤◌, ◌-◌, false, length, map, Option, Some, None, IfSome, IfOk, replicate, slice_get, vec_capacity, nat_lt, nat_le, ◌&&◌};
 ghost use Rattle.gp_base.specs.declared.limits.TheConstants.{MOST_THREADS};
+ghost use Rattle.std.specs.Option.{option_copied};
 ghost use Rattle.task_ast.specs.Looking.{start_of, look_of};
 ghost use Rattle.task_ast.specs.Reached.{start_table};
 ghost use Rattle.task_ast.specs.Table.{next_of, is_known_end, learning, unpassed};
 ghost use Rattle.task_ast.specs.meaning.Table.{numbers, ring};
 ghost use Rattle.task_ast.specs.Turn.{look};
 ghost use Rattle.ended_seats.specs.Idle.{is_idle, IdleBetween, IdleOver, Uncovered, PassedWithin};
-ghost use Rattle.token_order.specs.View.{table, seat_of, onward_of, StandsInside, WalksStand};
+ghost use Rattle.token_order.specs.View.{table, seat_of, onward_of, StandsInside, WalksStand, awaited};
 
+use gp_base::Pos;
 use gp_base::limits::MOST_THREADS;
 use std::alloc::{AllocError, Global};
 use task_ast::{Next, SyncOp};
@@ -105,6 +107,13 @@ impl Passed {
                 last: self.last.max(t),
             }
         }
+    }
+
+    /// Whether one of the threads from one on up to a place may have passed.
+    pub fn meets(self, from: usize, past: usize) -> bool
+        ensures { result ≡ nat_lt self.first past && nat_le from self.last }
+    {
+        self.first < past && from <= self.last
     }
 }
 
@@ -231,6 +240,27 @@ impl Threads {
             return Some(t);
         }
         self.first_live(0, start)
+    }
+
+    /// A thread's next synchronisation, where it is known.
+    pub fn next_of(&self, t: u32) -> Option<&Next>
+        ensures { option_copied result ≡ next_of (table self.now) t }
+    {
+        self.seats.get(t as usize)?.next.as_ref()
+    }
+
+    /// The position of the thread's last subthread, where the next synchronisation is not known.
+    pub fn awaits(&self, t: u32) -> Option<Pos>
+        ensures { result ≡ awaited (table self.now) t }
+    {
+        let seat = self.seats.get(t as usize)?;
+        if seat.next.is_some() {
+            return None;
+        }
+        match seat.last {
+            Some(position) => Some(Pos(position)),
+            None => None,
+        }
     }
 
     /// The next synchronisation of a thread becomes known.
