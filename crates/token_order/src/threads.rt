@@ -91,7 +91,10 @@ fn is_idle(seat: &Seat) -> bool
 impl Passed {
     /// No thread has passed.
     pub fn none() -> Passed {
-        Passed { first: 1, last: 0 }
+        Passed {
+            first: usize::MAX,
+            last: 0,
+        }
     }
 
     /// One more thread may have passed.

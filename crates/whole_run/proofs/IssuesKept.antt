@@ -19,9 +19,11 @@ use Rattle.task_ast.specs.Footprint.{lock_footprint}
 use Rattle.task_ast.specs.meaning.Repeat.{Again, More, Done}
 use Rattle.task_ast.specs.meaning.Table.{owned_from, is_settle}
 use Rattle.task_ast.specs.Table.{Seat, Table, next_of, is_known_end}
+use Rattle.token_order.specs.Spans.{Passes, no_pass, one_pass}
 use Rattle.token_order.specs.Turned.{settling_in, is_let}
 use Rattle.task_ast.specs.meaning.Turn.{child_of}
-use Rattle.task_ast.specs.Turn.{Turn, Issue, Needs, Ended, turn}
+use Rattle.task_ast.specs.Turn.{Turn, Issue, Needs, Ended, turn, turns_left}
+use Rattle.task_ast.proofs.Turns.{turn-IsFalling}
 use Rattle.task_ast.specs.laws.Threads.{HasBegun, with_child, ahead}
 use Rattle.task_ast.specs.laws.Standing.{IsIssuedBy}
 use Rattle.task_ast.specs.meaning.Plain.{Subthread, start_point, task_at}
@@ -401,6 +403,24 @@ module _ (batch : Batch) (table : Table) (places : List Place) (entries : List E
           store backup entries keeps.window issued entry
           (names_issued batch events keeps.fit keeps.journal) allowed first placed after store home refl (omega arith) refl)
           keeps.journal.restarts_are (ap (λ n. n + 1) keeps.journal.issued_are) tt
+
+-- turns that pass keep all
+pub kept_passes : (batch : Batch) (table after : Table) (places : List Place) (entries : List Entry) (store : Stored) (backup : Backup)
+    (events : List Event) (restarts : List Restart) (issued : ℕ) (known : Option Halt)
+    → Keeps batch table places entries store backup events restarts issued known → Passes table after
+    → Keeps batch after places entries store backup events restarts issued known
+kept_passes batch table after places entries store backup events restarts issued known keeps no_pass = keeps
+kept_passes batch table after places entries store backup events restarts issued known keeps (one_pass {there = there} before e) =
+    kept_passed batch there places entries store backup events restarts issued known
+    (kept_passes batch table there places entries store backup events restarts issued known keeps before) after e
+
+-- and leave no more that may pass
+pub passes_fall : (table after : Table) → Passes table after → turns_left after ≤ turns_left table
+passes_fall table after no_pass = omega arith
+passes_fall table after (one_pass {there = there} before e) =
+    let less = turn-IsFalling.falls there after e in
+    let rest = passes_fall table there before in
+    omega (arith, less, rest)
 
 -- a thread that is known to have ended is there
 ended_below : (table : Table) (h : ℕ) → is_known_end (next_of table h) ≡ true → h < length table.seats

@@ -4,6 +4,7 @@ ghost use Rattle.std.specs.Prelude.{◌≡◌, ◌<◌, ◌≤◌, ◌+◌, ◌^
 ghost use Rattle.gp_base.specs.declared.limits.TheConstants.{MOST_THREADS};
 ghost use Rattle.dependence.specs.meaning.Restarts.{NoneDue};
 ghost use Rattle.task_ast.specs.SyncOps.{IsNumbered};
+ghost use Rattle.task_ast.specs.Turn.{turns_left};
 ghost use Rattle.reorder_list.specs.Entries.{ComesNext};
 ghost use Rattle.token_order.specs.Turned.{Turned};
 ghost use Rattle.record_store.specs.Stored.{state_of};
@@ -313,6 +314,18 @@ fn turn(
     }
 }
 
+// The threads to which the token comes next pass, as far as they wait at barriers.
+fn pass_waiting(_plan: &Plan, parts: &mut Parts)
+    requires kept { Kept (batch_in _plan.now) parts.old }
+    requires closed { parts.old.ring.cleared ≡ false }
+    ensures kept { Kept (batch_in _plan.now) parts.new }
+    ensures closed { parts.new.ring.cleared ≡ false }
+    ensures view { view_of (batch_in _plan.now) parts.new ≡ view_of (batch_in _plan.now) parts.old }
+    ensures fewer { turns_left parts.new.ring.table ≤ turns_left parts.old.ring.table }
+{
+    parts.ring.pass_waiting();
+}
+
 /// Issues the next subthread, or answers which thread's next synchronisation is needed first, or how the run ends.
 pub fn issue(alloc: Global, plan: &Plan, parts: &mut Parts) -> Result<Issued, AllocError>
     requires kept { Kept (batch_in plan.now) parts.old }
@@ -324,6 +337,7 @@ pub fn issue(alloc: Global, plan: &Plan, parts: &mut Parts) -> Result<Issued, Al
     ensures err { OnErr result (view_of (batch_in plan.now) parts.new ≡ view_of (batch_in plan.now) parts.old) }
 {
     'turning: loop {
+        pass_waiting(plan, parts);
         let prepared = make_ready(alloc, plan, parts)?;
         if let Some(issued) = turn(alloc, plan, parts, prepared) {
             return Ok(issued);
