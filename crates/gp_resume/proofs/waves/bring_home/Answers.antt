@@ -21,9 +21,9 @@ next g c threads x y fs flight are =
     c.in-Some.run' c.loop-run.run-iterator.rest.items c.next.new.self.rest.items c.in-Some-run.done c.loop-run.course
     c.in-Some.ensures.steps.0 c.in-Some-run.is (c.loop-run.invariant.homing threads x y fs flight are)
 
-pub bring-requires-in-Some-run : goal.bring-requires-in-Some-run
-bring-requires-in-Some-run g c =
-    let at = (goal.at.bring-requires-in-Some-run g c).In-Some-run in
+pub bring-requires : goal.bring-requires
+bring-requires g c =
+    let at = (goal.at.bring-requires g c).In-Some-run in
     let k = c.requires.coming in
     coming-may c.args._plan.now c.requires.suits k.threads k.later k.flights _ _ c.in-Some-run.done _ c.loop-run.course
     (next g at k.threads k.before k.later k.flights k.flight k.runs_are)

@@ -1,8 +1,12 @@
 use Rattle.std.proofs.Common.{◌≡◌, ◌≤◌, [], sym, ap, ◌∙◌, subst}
 use Rattle.std.proofs.lemmas.Result.{on_ok_weaker}
+use Rattle.gp_base.proofs.Written.{prefix_none}
 use Rattle.task_ast.specs.Plain.{Plain}
 use Rattle.token_order.specs.View.{Roomy}
 use Rattle.gp_resume.specs.declared.course.Begun.{Begun}
+use Rattle.restart_log.specs.meaning.Lines.{printed}
+use Rattle.gp_resume.specs.meaning.Resumed.{lines_of}
+use Rattle.gp_resume.specs.inner.Going.{rest}
 use Rattle.gp_resume.specs.inner.Flights.{Flown, Joins}
 use Rattle.gp_resume.specs.inner.Waves.{ArePlaced, IsOne, Sent, IsSent}
 use Rattle.gp_resume.proofs.Sendings.{sent-first, sent-some, sent-one}
@@ -90,6 +94,10 @@ collect-requires-clause-placed g c lifetimes within =
     (g.C.Crew.out c.send_beside.new.crew) c.send_beside.new.course
     (c.in_ok-places.ensures.sent b.before (g.C.Crew.posted c.args.crew.now) (first g at b.before b.flown b.is b.joins))
     b.flown c.args.leader.begun b.is (sym b.joins.chain) b.joins.flown.pos)
+
+pub returns-in_err-runs-clause-partly : goal.returns-in_err-runs-clause-partly
+returns-in_err-runs-clause-partly g c x f is joins =
+    prefix_none (g.O.Sink.written c.args.out.now) (printed (lines_of (rest c.args.plan.now x)))
 
 pub returns-in_err-runs-clause-some : goal.returns-in_err-runs-clause-some
 returns-in_err-runs-clause-some g c x f is joins =

@@ -44,9 +44,9 @@ returns-in_err-begun-clause-some g c x before sent =
     sent-some c.args.plan.now c.args.threads x before (g.C.Crew.posted c.sending.crew) (g.C.Crew.out c.sending.crew) c.sending.course
     (c.sending.invariant.sent x before sent)
 
-pub send-requires-in-Some-clause-joins : goal.send-requires-in-Some-clause-joins
-send-requires-in-Some-clause-joins g c lifetimes within =
-    let at = (goal.at.send-requires-in-Some-clause-joins g c).In-Some in
+pub send-requires-clause-joins : goal.send-requires-clause-joins
+send-requires-clause-joins g c lifetimes within =
+    let at = (goal.at.send-requires-clause-joins g c).In-Some in
     let k = c.requires.sent in
     let j = joined g at k.before k.posted_before k.sent in
     record {
@@ -58,9 +58,9 @@ send-requires-in-Some-clause-joins g c lifetimes within =
       joins = j.3;
     }
 
-pub send-requires-in-Some-clause-fresh : goal.send-requires-in-Some-clause-fresh
-send-requires-in-Some-clause-fresh g c lifetimes within =
-    let at = (goal.at.send-requires-in-Some-clause-fresh g c).In-Some in
+pub send-requires-clause-fresh : goal.send-requires-clause-fresh
+send-requires-clause-fresh g c lifetimes within =
+    let at = (goal.at.send-requires-clause-fresh g c).In-Some in
     let k = c.requires.sent in
     let j = joined g at k.before k.posted_before k.sent in
     sent-fresh c.args.plan.now c.args.threads k.before k.posted_before (g.C.Crew.posted c.sending.crew)
