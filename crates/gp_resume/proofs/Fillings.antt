@@ -10,7 +10,7 @@ use Rattle.subthread.specs.declared.task.Work.{Work}
 use Rattle.subthread.specs.declared.task.Task.{Task}
 use Rattle.subthread.specs.declared.task.Done.{Done}
 use Rattle.subthread.specs.Tasks.{task_of, IsRun}
-use Rattle.gp_resume.specs.inner.Waves.{ArePlaced, IsRunOf, AreRunsOf, AreEmpty, Filling}
+use Rattle.gp_resume.specs.inner.Waves.{ArePlaced, IsRunOf, AreRunsOf, AreEmpty, IsOne, Filling}
 
 -- the task at a place has the position of that place
 pub placed-at : (first : ℕ) (tasks : List Task) → ArePlaced first tasks → (k : ℕ) (task : Task) → slice_get tasks k ≡ Some task
@@ -157,3 +157,22 @@ empty-more out out' places places' task outs more empty =
 
 pub empty-none : (out : List Task) (places : List (Option Done)) → out ≡ [] → places ≡ [] → AreEmpty out places
 empty-none out places none nothing = subst (λ out. AreEmpty out places) (sym none) (subst (AreEmpty []) (sym nothing) tt)
+
+-- one place for the one task that is out
+pub empty-one : (out : List Task) (nothing places : List (Option Done)) → IsOne out → nothing ≡ [] → places ≡ nothing ++ None ∷ []
+    → AreEmpty out places
+empty-one out nothing places one none push = empty-more [] out nothing places one.0 one.1 push (empty-none [] nothing refl none)
+
+-- the run of the one task that was out
+pub run-of-one : (work : Work) (out out' : List Task) (done : Done) → IsOne out → TakesOut out (task_of work done) out' → IsRun work done
+    → (out' ≡ []) × AreRunsOf work out (Some done ∷ [])
+run-of-one work out out' done (task, is) takes run = go takes.earlier takes.later (sym takes.before_is ∙ is) takes.after_is
+  where
+    go : (earlier later : List Task) → earlier ++ task_of work done ∷ later ≡ task ∷ [] → out' ≡ earlier ++ later
+        → (out' ≡ []) × AreRunsOf work out (Some done ∷ [])
+    go [] [] e after =
+        let same : task_of work done ≡ task = cc e in
+        (after, subst (λ tasks. AreRunsOf work tasks (Some done ∷ [])) (sym is) ((same, run), tt))
+    go [] (u ∷ later) e after = absurd (cc e)
+    go (t ∷ []) later e after = absurd (cc e)
+    go (t ∷ u ∷ earlier) later e after = absurd (cc e)

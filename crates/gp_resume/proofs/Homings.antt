@@ -15,7 +15,7 @@ use Rattle.gp_resume.specs.declared.course.Plan.{Plan}
 use Rattle.gp_resume.specs.declared.course.Course.{Course}
 use Rattle.gp_resume.specs.meaning.Resumed.{lines_of}
 use Rattle.gp_resume.specs.inner.Course.{IsSuited}
-use Rattle.gp_resume.specs.inner.Handed.{IsLeft}
+use Rattle.gp_resume.specs.inner.Handed.{MayTake, IsLeft}
 use Rattle.gp_resume.specs.inner.Flights.{Flown, Each, IsFree, IsFlown, Chain, Flight, StandsPast, task_from}
 use Rattle.gp_resume.specs.inner.Waves.{tasks_of, subthreads, AreRunsOf, IsRunOf, Homing}
 use Rattle.gp_resume.proofs.FlightData.{task-kept, flown-step}
@@ -169,20 +169,24 @@ module _ (plan : Plan) (suits : IsSuited plan) where
       wide : length c.f.after.table.seats ≤ length course.store.threads
       wide = let g = chain-grows c.f.after c.rest y c.flight.chain.2 in let l = c.flight.lending.threads in omega arith
 
-      pub coming-comes : MayComeHome course.store done.task.given.bundles done.old
+      coming-comes : MayComeHome course.store done.task.given.bundles done.old
       coming-comes = first-comes plan suits threads c.homing.now y c.f c.rest course c.flight done c.is_task c.run
 
-      pub coming-seat : done.task.thread < length course.ring.table.seats
+      coming-seat : done.task.thread < length course.ring.table.seats
       coming-seat = first-seat plan suits threads c.homing.now y c.f c.rest course c.flight done c.is_task c.run
 
-      pub coming-spot : done.task.thread < length course.spots.items
+      coming-spot : done.task.thread < length course.spots.items
       coming-spot = first-spot plan suits threads c.homing.now y c.f c.rest course c.flight done c.is_task c.run
 
-      pub coming-thread : done.effect.thread < length course.store.threads
+      coming-thread : done.effect.thread < length course.store.threads
       coming-thread = thread-there plan suits c.f c.flight.chain.1 done here c.run (length course.store.threads) wide
 
-      pub coming-child : FitsChild (length course.store.threads) done.effect.thread done.effect.child
+      coming-child : FitsChild (length course.store.threads) done.effect.thread done.effect.child
       coming-child = child-there plan suits c.f c.flight.chain.1 done here c.run (length course.store.threads) wide
+
+      pub coming-may : MayTake done course
+      coming-may =
+          record { comes = coming-comes; thread = coming-thread; child = coming-child; seats = coming-seat; spots = coming-spot }
 
       abbrev text : List ℕ
       text = printed done.effect.prints

@@ -1,6 +1,6 @@
 -- What a run comes to that went on from the rows of a log.
 use Rattle.std.proofs.Common.{◌≡◌, inl, inr, ℕ, zero, suc, ◌+◌, ◌-◌, ◌<◌, ◌≤◌, ◌&&◌, nat_eq, false, List, [], ◌∷◌, length, map, Contains, Option, Some, None, Ok, Err, refl, sym, ap, ◌∙◌, subst, arith}
-use Rattle.std.specs.Prelude.{ℤ, pos, negsuc, ◌≤ℤ◌, Result}
+use Rattle.std.specs.Prelude.{ℤ, pos, negsuc, ◌≤ℤ◌, Result, IfOk, OnOk}
 use Rattle.std.specs.List.{IsDistinct, AllByRecursion}
 use Rattle.std.specs.Io.KnownBytes.{Appends}
 use Rattle.std.proofs.lemmas.Bool.{cases_eq, ne_eqb}
@@ -31,7 +31,7 @@ use Rattle.gp_resume.specs.declared.course.Course.{Course}
 use Rattle.gp_resume.specs.meaning.Fitting.{FitsMove, led_by, replayed, run_after, FitFrom, Fit, resumed_at, least_bytes}
 use Rattle.gp_resume.specs.meaning.Resumed as resumed
 use Rattle.gp_resume.specs.meaning.Resumed.{lines_of, bytes_before}
-use Rattle.gp_resume.specs.Resuming.{AnswersLog, IsRefused, ReportsRest, IsEachOnce, AreSomeOnce, bytes_from}
+use Rattle.gp_resume.specs.Resuming.{AnswersLog, IsRefused, ReportsRest, IsEachOnce, AreSomeOnce, HasResumeCause, DrivesRest, bytes_from}
 use Rattle.gp_resume.specs.declared.stop.ResumeStop.{ResumeStop}
 use Rattle.gp_resume.specs.declared.stop.ResumeStop.TheVariants as stop
 use Rattle.gp_resume.specs.meaning.Reading.{Rows, IsLogOf}
@@ -249,6 +249,15 @@ pub same-rows : (program : Program) (inputs : Inputs) (limits : Limits) (bytes :
 same-rows program inputs limits bytes first second a b =
     let same = one-answer program inputs limits bytes (Rows first) (Rows second) a b in cc same
 
+-- where a log has rows, and is not refused
+pub told-answers : (A : Type 0) (program : Program) (inputs : Inputs) (limits : Limits) (bytes : List ℕ) (result : Result A ResumeStop)
+    → ¬ IsRefused result → (rows : List Retirement) → IsLogOf program inputs limits bytes rows → AnswersLog program inputs limits bytes result
+told-answers A program inputs limits bytes (Ok value) told rows is_log = (rows, is_log)
+told-answers A program inputs limits bytes (Err (stop.LogLine number)) told rows is_log = absurd (told tt)
+told-answers A program inputs limits bytes (Err (stop.LogFit number)) told rows is_log = absurd (told tt)
+told-answers A program inputs limits bytes (Err stop.WriteFault) told rows is_log = (rows, is_log)
+told-answers A program inputs limits bytes (Err stop.OutOfMemory) told rows is_log = tt
+
 -- what went on from where the rows of a log leave the run
 module _ (plan : Plan) (log : List ℕ) (logged : Logged) (course : Course) (replays : Replays plan log logged course) where
   -- the bytes that the rows tell of
@@ -300,13 +309,48 @@ module _ (plan : Plan) (log : List ℕ) (logged : Logged) (course : Course) (rep
     all-some posted are =
         some-posted plan rows is_log.begins.fit posted (are (begun_at plan rows is_log.begins.fit) stands-there)
 
--- ---- a run that stops
+  -- what comes of it where it came to its end
+  pub drives-to-end : (written written' : Option (List ℕ)) (faults faults' : ℕ) (posted : List (ℕ × ℕ)) (end : End) (later : Course)
+      → ((x : Plain) → Stands plan x course → WentOn plan x end later)
+      → ((x : Plain) → Stands plan x course → Appends written written' (printed (lines_of (rest plan x))))
+      → ((x : Plain) → Stands plan x course → AppendsPrefix written written' (printed (lines_of (rest plan x))))
+      → ((x : Plain) → Stands plan x course → posted ≡ firsts_from x.table.issued (length (rest plan x)))
+      → ((x : Plain) → Stands plan x course → (n : ℕ) × (n ≤ length (rest plan x)) × (posted ≡ firsts_from x.table.issued n))
+      → faults ≤ faults' → (bytes : ℕ) (report : Report) → pos bytes ≡ logged.bytes → report.end ≡ end → report.records ≡ later.store.cells
+      → report.subthreads ≡ later.issued → report.unused ≡ 0 → report.journal.events ≡ [] → report.journal.restarts ≡ []
+      → DrivesRest (program_in plan.work.now) plan.inputs.value plan.limits log written written' faults faults' posted (Ok (bytes, report))
+  drives-to-end written written' faults faults' posted end later went wrote partly posts some more bytes report bytes_are is cells count none calm
+      unstruck =
+      record {
+        log = (replays.rows, replays.is_log);
+        refused = λ is. absurd is;
+        unread = λ no. absurd (no replays.rows replays.is_log);
+        report = λ rows is_log. all-reports rows is_log end later went bytes report bytes_are is cells count none calm unstruck;
+        lines = λ rows is_log. all-lines rows is_log written written' wrote;
+        partly = λ rows is_log. all-partly rows is_log written written' partly;
+        posts = λ rows is_log. all-posts rows is_log posted posts;
+        some = λ rows is_log. all-some rows is_log posted some;
+        cause = record { later = more; failed = λ is. absurd (cc is) };
+      }
 
--- where a log has rows, and is not refused
-pub told-answers : (A : Type 0) (program : Program) (inputs : Inputs) (limits : Limits) (bytes : List ℕ) (result : Result A ResumeStop)
-    → ¬ IsRefused result → (rows : List Retirement) → IsLogOf program inputs limits bytes rows → AnswersLog program inputs limits bytes result
-told-answers A program inputs limits bytes (Ok value) told rows is_log = (rows, is_log)
-told-answers A program inputs limits bytes (Err (stop.LogLine number)) told rows is_log = absurd (told tt)
-told-answers A program inputs limits bytes (Err (stop.LogFit number)) told rows is_log = absurd (told tt)
-told-answers A program inputs limits bytes (Err stop.WriteFault) told rows is_log = (rows, is_log)
-told-answers A program inputs limits bytes (Err stop.OutOfMemory) told rows is_log = tt
+  -- and where it stopped before
+  pub drives-to-stop : (written written' : Option (List ℕ)) (faults faults' : ℕ) (posted : List (ℕ × ℕ))
+      (result : Result (ℕ × Report) ResumeStop) (e : ResumeStop) → result ≡ Err e → ¬ IsRefused result → HasResumeCause faults faults' result
+      → ((x : Plain) → Stands plan x course → AppendsPrefix written written' (printed (lines_of (rest plan x))))
+      → ((x : Plain) → Stands plan x course → (n : ℕ) × (n ≤ length (rest plan x)) × (posted ≡ firsts_from x.table.issued n))
+      → DrivesRest (program_in plan.work.now) plan.inputs.value plan.limits log written written' faults faults' posted result
+  drives-to-stop written written' faults faults' posted result e is told cause partly some =
+      record {
+        log = told-answers (ℕ × Report) (program_in plan.work.now) plan.inputs.value plan.limits log result told replays.rows replays.is_log;
+        refused = λ refused. absurd (told refused);
+        unread = λ no. absurd (no replays.rows replays.is_log);
+        report = subst (λ r. IfOk r (λ answer. (rows : List Retirement) → IsLogOf (program_in plan.work.now) plan.inputs.value plan.limits log rows
+            → ReportsRest (program_in plan.work.now) plan.inputs.value plan.limits rows answer.0 answer.1)) (sym is) tt;
+        lines = subst (λ r. OnOk r ((rows : List Retirement) → IsLogOf (program_in plan.work.now) plan.inputs.value plan.limits log rows
+            → Appends written written' (printed (resumed.lines (program_in plan.work.now) plan.inputs.value plan.limits rows)))) (sym is) tt;
+        partly = λ rows is_log. all-partly rows is_log written written' partly;
+        posts = subst (λ r. OnOk r ((rows : List Retirement) → IsLogOf (program_in plan.work.now) plan.inputs.value plan.limits log rows
+            → IsEachOnce posted (length rows) (resumed.count (program_in plan.work.now) plan.inputs.value plan.limits rows))) (sym is) tt;
+        some = λ rows is_log. all-some rows is_log posted some;
+        cause = cause;
+      }

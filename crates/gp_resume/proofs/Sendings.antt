@@ -15,7 +15,7 @@ use Rattle.gp_resume.specs.inner.Course.{IsSuited}
 use Rattle.gp_resume.specs.inner.Handed.{task_begun}
 use Rattle.gp_resume.specs.inner.Flights.{Flown, IsFlown, Flight, Joins, task_from}
 use Rattle.gp_resume.specs.inner.Going.{rest, firsts_from}
-use Rattle.gp_resume.specs.inner.Waves.{tasks_of, Sent}
+use Rattle.gp_resume.specs.inner.Waves.{tasks_of, IsOne, Sent}
 use Rattle.gp_resume.proofs.Chains.{chain-issued, chain-some}
 use Rattle.gp_resume.proofs.Flights.{joins-numbered, joins-rising, joins-home, joins-task, joins-fits, flight-joined}
 use Rattle.gp_resume.proofs.Onward.{issued-next, firsts-push, firsts-past}
@@ -138,3 +138,7 @@ sent-first plan x f begun is at place before posted before-out out course thread
   where
     here : begun.pos ≡ x.table.issued
     here = ap (λ (b : Begun). b.pos) (sym is) ∙ (place ∙ ap (λ (p : Plain). p.table.issued) at)
+
+-- it alone is out
+pub sent-one : (before-out out : List Task) (task : Task) → before-out ≡ [] → out ≡ before-out ++ task ∷ [] → IsOne out
+sent-one before-out out task none outs = (task, outs ∙ (λ i. none i ++ task ∷ []))

@@ -1,5 +1,5 @@
 -- A wave: what went out has come home.
-use Rattle.std.proofs.Common.{◌≡◌, ℕ, ◌+◌, arith, List, [], ◌∷◌, ◌++◌, Option, sym, ap, ◌∙◌, subst}
+use Rattle.std.proofs.Common.{◌≡◌, ℕ, ◌+◌, arith, List, [], ◌∷◌, ◌++◌, Option, Some, refl, sym, ap, ◌∙◌, subst}
 use Rattle.std.specs.Io.KnownBytes.{Appends}
 use Rattle.std.proofs.lemmas.List.{length-map}
 use Rattle.gp_base.specs.meaning.Sinks.{AppendsPrefix}
@@ -13,10 +13,13 @@ use Rattle.gp_resume.specs.declared.course.Plan.{Plan}
 use Rattle.gp_resume.specs.declared.course.Begun.{Begun}
 use Rattle.gp_resume.specs.declared.course.Course.{Course}
 use Rattle.gp_resume.specs.meaning.Resumed.{lines_of}
+use Rattle.gp_resume.specs.inner.Course.{IsSuited}
+use Rattle.gp_resume.specs.inner.Handed.{MayTake, IsLeft}
 use Rattle.gp_resume.specs.inner.Flights.{Flown, Chain, Flight, StandsPast}
 use Rattle.gp_resume.specs.inner.Going.{rest, firsts_from}
 use Rattle.gp_resume.specs.inner.Waves.{tasks_of, subthreads, ArePlaced, AreRunsOf, Sent, IsComing, WentBy}
 use Rattle.gp_resume.proofs.Chains.{chain-rest, chain-last, chain-issued}
+use Rattle.gp_resume.proofs.Homings.{Coming, coming, coming-may, coming-then, coming-stops, homing-first, homing-last}
 use Rattle.gp_resume.proofs.Onward.{issued-next, printed-lines}
 
 chain-placed : (plan : Plan) (x0 : Plain) (n : ℕ) (x : Plain) (fs : List Flown) (y : Plain) → n ≡ x.table.issued → Chain plan x fs y
@@ -58,6 +61,31 @@ module _ (plan : Plan) (threads : ℕ) (x : Plain) (before posted : List (ℕ ×
       ap (λ run. printed (lines_of run)) (chain-rest plan x sent.flights sent.later sent.flight.chain)
       ∙ printed-lines (subthreads sent.flights) (rest plan sent.later)
 
+  -- a part of the lines of those that were sent is one of the lines of the rest
+  part-of-rest : (written written' : Option (List ℕ)) → AppendsPrefix written written' (printed (lines_of (subthreads sent.flights)))
+      → AppendsPrefix written written' (printed (lines_of (rest plan x)))
+  part-of-rest written written' part =
+      subst (AppendsPrefix written written') (sym lines-part)
+      (prefix_first written written' (printed (lines_of (subthreads sent.flights))) (printed (lines_of (rest plan sent.later))) part)
+
+  -- once those that were sent are at home the run has gone on by them
+  went-by : (written written' : Option (List ℕ)) (posted' : List (ℕ × ℕ)) (course' : Course) → posted' ≡ posted
+      → StandsPast plan sent.later course' → Appends written written' (printed (lines_of (subthreads sent.flights)))
+      → WentBy plan x written written' before posted' course'
+  went-by written written' posted' course' kept stands wrote =
+      let many = length-map sent.flights (λ (f : Flown). f.subthread) in
+      record {
+        later = sent.later;
+        done = subthreads sent.flights;
+        stands = stands;
+        rest_is = chain-rest plan x sent.flights sent.later sent.flight.chain;
+        last_is = chain-last plan x sent.flights sent.later sent.flight.chain;
+        some = let s = sent.some in omega arith;
+        issued = let i = chain-issued plan x sent.flights sent.later sent.flight.chain in omega arith;
+        wrote = wrote;
+        posts = kept ∙ (sent.posts ∙ ap (λ n. before ++ firsts_from x.table.issued n) (sym many));
+      }
+
   -- what bring_home says for all is said for these
   pub wave-partly : (work : Work) (runs : List (Option Done)) → work ≡ plan.work.now → AreRunsOf work out runs
       → (written written' : Option (List ℕ))
@@ -65,9 +93,7 @@ module _ (plan : Plan) (threads : ℕ) (x : Plain) (before posted : List (ℕ ×
       → AreRunsOf plan.work.now (tasks_of plan x fs) runs → AppendsPrefix written written' (printed (lines_of (subthreads fs))))
       → AppendsPrefix written written' (printed (lines_of (rest plan x)))
   wave-partly work runs same are written written' partly =
-      subst (AppendsPrefix written written') (sym lines-part)
-      (prefix_first written written' (printed (lines_of (subthreads sent.flights))) (printed (lines_of (rest plan sent.later)))
-      (partly threads x sent.later sent.flights sent.flight (wave-runs work runs same are)))
+      part-of-rest written written' (partly threads x sent.later sent.flights sent.flight (wave-runs work runs same are))
 
   pub wave-went : (work : Work) (runs : List (Option Done)) → work ≡ plan.work.now → AreRunsOf work out runs
       → (written written' : Option (List ℕ)) (posted' : List (ℕ × ℕ)) (course' : Course) → posted' ≡ posted
@@ -77,15 +103,32 @@ module _ (plan : Plan) (threads : ℕ) (x : Plain) (before posted : List (ℕ ×
       → AreRunsOf plan.work.now (tasks_of plan x fs) runs → Appends written written' (printed (lines_of (subthreads fs))))
       → WentBy plan x written written' before posted' course'
   wave-went work runs same are written written' posted' course' kept stands lines =
-      let many = length-map sent.flights (λ (f : Flown). f.subthread) in
-      record {
-        later = sent.later;
-        done = subthreads sent.flights;
-        stands = stands threads x sent.later sent.flights sent.flight (wave-runs work runs same are);
-        rest_is = chain-rest plan x sent.flights sent.later sent.flight.chain;
-        last_is = chain-last plan x sent.flights sent.later sent.flight.chain;
-        some = let s = sent.some in omega arith;
-        issued = let i = chain-issued plan x sent.flights sent.later sent.flight.chain in omega arith;
-        wrote = lines threads x sent.later sent.flights sent.flight (wave-runs work runs same are);
-        posts = kept ∙ (sent.posts ∙ ap (λ n. before ++ firsts_from x.table.issued n) (sym many));
-      }
+      went-by written written' posted' course' kept
+      (stands threads x sent.later sent.flights sent.flight (wave-runs work runs same are))
+      (lines threads x sent.later sent.flights sent.flight (wave-runs work runs same are))
+
+  module _ (suits : IsSuited plan) (work : Work) (done : Done) (same : work ≡ plan.work.now) (are : AreRunsOf work out (Some done ∷ []))
+      (written : Option (List ℕ)) where
+    -- the run of the only one that was sent comes home
+    alone-comes : Coming plan suits threads sent.later sent.flights written written done [] course
+    alone-comes =
+        coming plan suits threads sent.later sent.flights written written (Some done) (Some done ∷ []) [] done course refl refl
+        (homing-first plan suits threads sent.later sent.flights written x course (Some done ∷ []) sent.flight
+        (wave-runs work (Some done ∷ []) same are))
+
+    pub alone-may : MayTake done course
+    alone-may = coming-may plan suits threads sent.later sent.flights written written done [] course alone-comes
+
+    pub alone-partly : (written' : Option (List ℕ)) → AppendsPrefix written written' (printed done.effect.prints)
+        → AppendsPrefix written written' (printed (lines_of (rest plan x)))
+    alone-partly written' part =
+        part-of-rest written written'
+        (coming-stops plan suits threads sent.later sent.flights written written done [] course alone-comes written' part)
+
+    pub alone-went : (written' : Option (List ℕ)) (posted' : List (ℕ × ℕ)) (course' : Course) → posted' ≡ posted
+        → IsLeft done course course' → Appends written written' (printed done.effect.prints)
+        → WentBy plan x written written' before posted' course'
+    alone-went written' posted' course' kept left wrote =
+        let last = homing-last plan suits threads sent.later sent.flights written written' course'
+        (coming-then plan suits threads sent.later sent.flights written written done [] course alone-comes written' course' left wrote) in
+        went-by written written' posted' course' kept last.0 last.1

@@ -13,7 +13,7 @@ ghost use Rattle.restart_log.specs.meaning.Lines.{printed};
 ghost use Rattle.retirement_log.specs.meaning.Rows.{Retirement};
 ghost use Rattle.gp_resume.specs.meaning.Reading.{IsLogOf};
 ghost use Rattle.gp_resume.specs.meaning.Resumed.{lines_of, lines, count};
-ghost use Rattle.gp_resume.specs.Resuming.{AnswersLog, IsRefused, ReportsRest, IsEachOnce, AreSomeOnce, HasResumeCause};
+ghost use Rattle.gp_resume.specs.Resuming.{AnswersLog, IsRefused, DrivesRest, HasResumeCause};
 ghost use Rattle.gp_resume.specs.inner.Course.{IsSuited, IsBegun, Stands, Begins};
 ghost use Rattle.gp_resume.specs.inner.Going.{rest, WentOn, firsts_from, Replays};
 
@@ -162,15 +162,7 @@ pub fn resume_paced<R: Threads + Sync, C: Crew, O: Sink>(
     requires work { C.work crew.old ≡ w.now }
     requires none_out { C.out crew.old ≡ [] }
     requires none_posted { C.posted crew.old ≡ [] }
-    ensures log { AnswersLog (program_in w.now) inputs limits log.now result }
-    ensures refused { IsRefused result → (O.written out.new ≡ O.written out.old) × (O.faults out.new ≡ O.faults out.old) × (C.posted crew.new ≡ []) }
-    ensures unread { ((rows : List Retirement) → IsLogOf (program_in w.now) inputs limits log.now rows → ⊥) → (O.written out.new ≡ O.written out.old) × (O.faults out.new ≡ O.faults out.old) }
-    ensures report { IfOk result (λ answer. (rows : List Retirement) → IsLogOf (program_in w.now) inputs limits log.now rows → ReportsRest (program_in w.now) inputs limits rows answer.0 answer.1) }
-    ensures lines { OnOk result ((rows : List Retirement) → IsLogOf (program_in w.now) inputs limits log.now rows → Appends (O.written out.old) (O.written out.new) (printed (lines (program_in w.now) inputs limits rows))) }
-    ensures partly { (rows : List Retirement) → IsLogOf (program_in w.now) inputs limits log.now rows → AppendsPrefix (O.written out.old) (O.written out.new) (printed (lines (program_in w.now) inputs limits rows)) }
-    ensures posts { OnOk result ((rows : List Retirement) → IsLogOf (program_in w.now) inputs limits log.now rows → IsEachOnce (C.posted crew.new) (length rows) (count (program_in w.now) inputs limits rows)) }
-    ensures some { (rows : List Retirement) → IsLogOf (program_in w.now) inputs limits log.now rows → AreSomeOnce (C.posted crew.new) (length rows) (count (program_in w.now) inputs limits rows) }
-    ensures cause { HasResumeCause (O.faults out.old) (O.faults out.new) result }
+    ensures { DrivesRest (program_in w.now) inputs limits log.now (O.written out.old) (O.written out.new) (O.faults out.old) (O.faults out.new) (C.posted crew.new) result }
 {
     let plan = Plan {
         work: w,
@@ -204,15 +196,7 @@ pub fn resume_drive<R: Threads + Sync, C: Crew, O: Sink>(
     requires work { C.work crew.old ≡ w.now }
     requires none_out { C.out crew.old ≡ [] }
     requires none_posted { C.posted crew.old ≡ [] }
-    ensures log { AnswersLog (program_in w.now) inputs limits log.now result }
-    ensures refused { IsRefused result → (O.written out.new ≡ O.written out.old) × (O.faults out.new ≡ O.faults out.old) × (C.posted crew.new ≡ []) }
-    ensures unread { ((rows : List Retirement) → IsLogOf (program_in w.now) inputs limits log.now rows → ⊥) → (O.written out.new ≡ O.written out.old) × (O.faults out.new ≡ O.faults out.old) }
-    ensures report { IfOk result (λ answer. (rows : List Retirement) → IsLogOf (program_in w.now) inputs limits log.now rows → ReportsRest (program_in w.now) inputs limits rows answer.0 answer.1) }
-    ensures lines { OnOk result ((rows : List Retirement) → IsLogOf (program_in w.now) inputs limits log.now rows → Appends (O.written out.old) (O.written out.new) (printed (lines (program_in w.now) inputs limits rows))) }
-    ensures partly { (rows : List Retirement) → IsLogOf (program_in w.now) inputs limits log.now rows → AppendsPrefix (O.written out.old) (O.written out.new) (printed (lines (program_in w.now) inputs limits rows)) }
-    ensures posts { OnOk result ((rows : List Retirement) → IsLogOf (program_in w.now) inputs limits log.now rows → IsEachOnce (C.posted crew.new) (length rows) (count (program_in w.now) inputs limits rows)) }
-    ensures some { (rows : List Retirement) → IsLogOf (program_in w.now) inputs limits log.now rows → AreSomeOnce (C.posted crew.new) (length rows) (count (program_in w.now) inputs limits rows) }
-    ensures cause { HasResumeCause (O.faults out.old) (O.faults out.new) result }
+    ensures { DrivesRest (program_in w.now) inputs limits log.now (O.written out.old) (O.written out.new) (O.faults out.old) (O.faults out.new) (C.posted crew.new) result }
 {
     let mean_steps = MeanSteps::new(alloc, w);
     resume_paced(

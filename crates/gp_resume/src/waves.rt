@@ -3,17 +3,17 @@
 ghost use Rattle.std.specs.Prelude.{◌≡◌, ◌-◌, ◌<◌, ◌≤◌, ℕ, true, false, [], ◌∷◌, ◌++◌, List, length, slice_set, Some, All, Contains, OnOk, OnErr, IfOk};
 ghost use Rattle.std.specs.List.Sorted.{IsStrictlyIncreasing};
 ghost use Rattle.task_ast.specs.Plain.{Plain};
-ghost use Rattle.record_store.specs.Lent.{marked, MayComeHome};
-ghost use Rattle.record_store.specs.Stored.{FitsChild, IsAtHome};
+ghost use Rattle.record_store.specs.Lent.{marked};
+ghost use Rattle.record_store.specs.Stored.{IsAtHome};
 ghost use Rattle.task_ast.specs.SyncOps.{IsNumbered};
 ghost use Rattle.subthread.specs.Tasks.{Fits};
 ghost use Rattle.crew.specs.Out.{pair_of};
 ghost use Rattle.gp_resume.specs.inner.Course.{IsSuited};
-ghost use Rattle.gp_resume.specs.inner.Handed.{bare_task, task_begun, IsLeft};
+ghost use Rattle.gp_resume.specs.inner.Handed.{bare_task, task_begun, MayTake, IsLeft};
 ghost use Rattle.gp_resume.specs.inner.Flights.{Flown, Flight, Joins, task_from};
 ghost use Rattle.gp_resume.specs.inner.Going.{rest, firsts_from};
 ghost use Rattle.gp_resume.specs.inner.Flights.{StandsPast};
-ghost use Rattle.gp_resume.specs.inner.Waves.{tasks_of, subthreads, IsJoining, BeginsFirst, Sent, ArePlaced, AreEmpty, AreRunsOf, IsComing, WentBy};
+ghost use Rattle.gp_resume.specs.inner.Waves.{tasks_of, subthreads, IsJoining, BeginsFirst, Sent, IsSent, IsOne, ArePlaced, AreEmpty, AreRunsOf, IsComing, WentBy};
 ghost use Rattle.gp_resume.specs.meaning.Resumed.{lines_of};
 ghost use Rattle.gp_resume.specs.Resuming.{IsRefused, HasResumeCause};
 ghost use Rattle.gp_base.specs.meaning.Sinks.{AppendsPrefix};
@@ -129,36 +129,30 @@ fn are_worth_two(steps: u64, threads: usize) -> bool {
     worth(steps.saturating_mul(threads as u64), steps) > 1
 }
 
-// Posts the subthread that begins and, where subthreads like it are worth a second worker, those that can begin beside it
-// before any of them was run. Gives a place for the run of each. The error is that memory is out; some were posted then.
-fn send_all<R: Threads + Sync, C: Crew>(
+// Posts those that can begin beside the one that is out before it was run. Gives a place for the run of each. The error
+// is that memory is out; some were posted then.
+fn send_beside<R: Threads + Sync, C: Crew>(
     rt: &R,
     alloc: Global,
     plan: &Plan,
     course: &mut Course,
     crew: &mut C,
     threads: usize,
-    first: Begun,
 ) -> Result<Vec<Option<Done>>, AllocError>
     requires suits { IsSuited plan.now }
-    requires begins { BeginsFirst plan.now threads first course.old }
+    requires sent { IsSent plan.now threads (C.posted crew.old) (C.out crew.old) course.old }
+    requires one { IsOne (C.out crew.old) }
     requires closed { course.old.ring.cleared ≡ false }
     requires ready { C.ready crew.old }
     requires work { C.work crew.old ≡ plan.now.work.now }
-    requires none_out { C.out crew.old ≡ [] }
-    requires fresh { (p : ℕ) → first.pos ≤ p → ¬ Contains (C.posted crew.old) (p, 0) }
-    ensures sent { OnOk result ((x : Plain) (f : Flown) → f.begun ≡ first → Joins plan.now threads x [] f course.old → Sent plan.now threads x (C.posted crew.old) (C.posted crew.new) (C.out crew.new) course.new) }
+    ensures sent { OnOk result ((x : Plain) (before : List (ℕ × ℕ)) → Sent plan.now threads x before (C.posted crew.old) (C.out crew.old) course.old → Sent plan.now threads x before (C.posted crew.new) (C.out crew.new) course.new) }
     ensures places { IfOk result (λ places. AreEmpty (C.out crew.new) places.items) }
-    ensures some { (x : Plain) (f : Flown) → f.begun ≡ first → Joins plan.now threads x [] f course.old → (n : ℕ) × (n ≤ length (rest plan.now x)) × (C.posted crew.new ≡ C.posted crew.old ++ firsts_from x.table.issued n) }
+    ensures some { (x : Plain) (before : List (ℕ × ℕ)) → Sent plan.now threads x before (C.posted crew.old) (C.out crew.old) course.old → (n : ℕ) × (n ≤ length (rest plan.now x)) × (C.posted crew.new ≡ before ++ firsts_from x.table.issued n) }
     ensures ready { C.ready crew.new }
     ensures work { C.work crew.new ≡ C.work crew.old }
 {
     let mut places = Vec::new(alloc);
-    let steps = send(rt, alloc, plan, course, crew, first)?;
     places.push(None)?;
-    if !are_worth_two(steps, threads) {
-        return Ok(places);
-    }
     'sending: while let Some(begun) = course.next_beside(alloc, plan, threads)? {
         send(rt, alloc, plan, course, crew, begun)?;
         places.push(None)?;
@@ -223,11 +217,7 @@ fn collect<R: Threads + Sync, C: Crew>(
 
 // Takes the cells of a run's locks home, leaves what it leaves, and gives the lines that it printed.
 fn take(course: &mut Course, done: Done) -> Lines
-    requires comes { MayComeHome course.old.store done.task.given.bundles done.old }
-    requires thread { done.effect.thread < length course.old.store.threads }
-    requires child { FitsChild (length course.old.store.threads) done.effect.thread done.effect.child }
-    requires seats { done.task.thread < length course.old.ring.table.seats }
-    requires spots { done.task.thread < length course.old.spots.items }
+    requires { MayTake done course.old }
     ensures left { IsLeft done course.old course.new }
     ensures lines { result ≡ done.effect.prints }
 {
@@ -245,6 +235,54 @@ fn take(course: &mut Course, done: Done) -> Lines
     let (_, lines) = course.store.accept_home(bundles, old, effect);
     course.leave(thread, next, at, ctl);
     lines
+}
+
+// Takes what a run leaves, and writes the lines that it printed.
+fn bring<O: Sink>(
+    alloc: Global,
+    course: &mut Course,
+    out: &mut O,
+    done: Done,
+) -> Result<(), ResumeStop>
+    requires { MayTake done course.old }
+    ensures left { IsLeft done course.old course.new }
+    ensures lines { OnOk result (Appends (O.written out.old) (O.written out.new) (printed done.effect.prints)) }
+    ensures partly { AppendsPrefix (O.written out.old) (O.written out.new) (printed done.effect.prints) }
+    ensures cause { HasResumeCause (O.faults out.old) (O.faults out.new) result }
+    ensures told { ¬ IsRefused result }
+{
+    let lines = take(course, done);
+    let text = printed(alloc, &lines)?;
+    put(out, &text)
+}
+
+// Has a crew run the one subthread that is out, takes what it leaves, and writes the lines that it printed.
+fn go_alone<R: Threads + Sync, C: Crew, O: Sink>(
+    rt: &R,
+    alloc: Global,
+    _plan: &Plan,
+    course: &mut Course,
+    crew: &mut C,
+    out: &mut O,
+) -> Result<(), ResumeStop>
+    requires suits { IsSuited _plan.now }
+    requires sent { (threads : ℕ) × IsSent _plan.now threads (C.posted crew.old) (C.out crew.old) course.old }
+    requires one { IsOne (C.out crew.old) }
+    requires ready { C.ready crew.old }
+    requires work { C.work crew.old ≡ _plan.now.work.now }
+    ensures went { OnOk result ((threads : ℕ) (x : Plain) (before : List (ℕ × ℕ)) → Sent _plan.now threads x before (C.posted crew.old) (C.out crew.old) course.old → WentBy _plan.now x (O.written out.old) (O.written out.new) before (C.posted crew.new) course.new) }
+    ensures partly { (threads : ℕ) (x : Plain) (before : List (ℕ × ℕ)) → Sent _plan.now threads x before (C.posted crew.old) (C.out crew.old) course.old → AppendsPrefix (O.written out.old) (O.written out.new) (printed (lines_of (rest _plan.now x))) }
+    ensures posted { C.posted crew.new ≡ C.posted crew.old }
+    ensures ready { C.ready crew.new }
+    ensures work { C.work crew.new ≡ C.work crew.old }
+    ensures none_left { OnOk result (C.out crew.new ≡ []) }
+    ensures cause { HasResumeCause (O.faults out.old) (O.faults out.new) result }
+    ensures told { ¬ IsRefused result }
+{
+    match crew.next(rt)? {
+        Some(done) => bring(alloc, course, out, done),
+        None => unreachable!(),
+    }
 }
 
 // Takes what each run leaves, in order, and writes the lines that it printed.
@@ -265,11 +303,7 @@ fn bring_home<O: Sink>(
 {
     for run in runs {
         match run {
-            Some(done) => {
-                let lines = take(course, done);
-                let text = printed(alloc, &lines)?;
-                put(out, &text)?;
-            }
+            Some(done) => bring(alloc, course, out, done)?,
             None => unreachable!(),
         }
     }
@@ -319,13 +353,14 @@ pub fn go_wave<R: Threads + Sync, C: Crew, O: Sink>(
     ensures cause { HasResumeCause (O.faults out.old) (O.faults out.new) result }
     ensures told { ¬ IsRefused result }
 {
-    let Leader {
-        threads,
-        begun: first,
-    } = leader;
-    let position = position_begun(&first);
-    let places = send_all(rt, alloc, plan, course, crew, threads, first)?;
-    let runs = collect(rt, crew, position, places)?;
+    let Leader { threads, begun } = leader;
+    let first = position_begun(&begun);
+    let steps = send(rt, alloc, plan, course, crew, begun)?;
+    if !are_worth_two(steps, threads) {
+        return go_alone(rt, alloc, plan, course, crew, out);
+    }
+    let places = send_beside(rt, alloc, plan, course, crew, threads)?;
+    let runs = collect(rt, crew, first, places)?;
     bring_home(alloc, plan, course, out, runs)?;
     Ok(())
 }

@@ -22,11 +22,11 @@ use Rattle.gp_resume.specs.declared.stop.ResumeStop.{ResumeStop}
 use Rattle.gp_resume.specs.declared.stop.ResumeStop.TheVariants.{LogLine, LogFit, WriteFault, OutOfMemory}
 use Rattle.gp_resume.specs.meaning.Reading.{EndsNoLine, IsLogOf}
 use Rattle.gp_resume.specs.meaning.Resumed as rest
-use Rattle.gp_resume.specs.Resuming.{AnswersLog, IsRefused, ReportsRest}
+use Rattle.gp_resume.specs.Resuming.{AnswersLog, IsRefused, ReportsRest, DrivesRest}
 use Rattle.call_cases.specs.meaning.Answers.{Change}
 use Rattle.call_cases.specs.meaning.RunCommands.{end_status}
 use Rattle.call_cases.proofs.Headlines.{none_taken}
-use Rattle.resume_calls.specs.inner.Resting.{PutsFirst, PutsTail, Drives, Resumes}
+use Rattle.resume_calls.specs.inner.Resting.{PutsFirst, PutsTail, Resumes}
 
 -- a line ends in a row
 row_ends : (row : Retirement) → Contains (row_text row) 10
@@ -125,17 +125,17 @@ module _ (program : Program) (inputs : Inputs) (limits : Limits) (bytes : List �
       cause = λ is. puts.cause.failed (ap Err is);
     }
 
-    module _ (second : Option (List ℕ)) (f'' : ℕ) {T : Type 0} {value : T}
+    module _ (second : Option (List ℕ)) (f'' : ℕ) (posted : List (ℕ × ℕ)) {T : Type 0} {value : T}
         (puts : PutsFirst bytes (between before first f f') (Ok value)) where
       -- the lines were not all written
-      pub without_lines : (stop : ResumeStop) → Drives program inputs limits bytes (between first second f' f'') (Err stop)
+      pub without_lines : (stop : ResumeStop) → DrivesRest program inputs limits bytes first second f' f'' posted (Err stop)
           → Resumes program inputs limits bytes (between before second f f'') (Err stop)
       without_lines stop drives = record {
         log = same_log (ℕ × Report) stop drives.log;
         unread = λ none.
             let start = puts.kept (λ no. none [] (unlined no)) in
             let lines = drives.unread none in
-            record { written = lines.written ∙ start.written; faults = lines.faults ∙ start.faults };
+            record { written = lines.0 ∙ start.written; faults = lines.1 ∙ start.faults };
         status = tt;
         all = tt;
         part = λ rows log.
@@ -145,7 +145,7 @@ module _ (program : Program) (inputs : Inputs) (limits : Limits) (bytes : List �
       }
 
       module _ (third : Option (List ℕ)) (f''' : ℕ) (count : ℕ) (report : Report)
-          (drives : Drives program inputs limits bytes (between first second f' f'') (Ok (count, report))) where
+          (drives : DrivesRest program inputs limits bytes first second f' f'' posted (Ok (count, report))) where
         -- the tail was not written
         pub without_tail : {S : Type 0} (stop : ResumeStop) → PutsTail {T = S} program report (between second third f'' f''') (Err stop)
             → Resumes program inputs limits bytes (between before third f f''') (Err stop)

@@ -3,14 +3,13 @@ ghost use Rattle.std.specs.Prelude.{◌≡◌, ◌≤◌, [], length};
 ghost use Rattle.gp_base.specs.declared.limits.TheConstants.{MOST_FILE_BYTES};
 ghost use Rattle.task_ast.specs.View.{plain_program};
 ghost use Rattle.lock_checker.specs.Accepted.{program_of};
-ghost use Rattle.subthread.specs.Tasks.{Suits, program_in};
 ghost use Rattle.call_cases.specs.meaning.Answers.{change_of};
-ghost use Rattle.resume_calls.specs.inner.Resting.{IsPlanOf, PutsFirst, PutsTail, Drives, Resumes};
+ghost use Rattle.resume_calls.specs.inner.Resting.{IsPlanOf, PutsFirst, PutsTail, Resumes};
 
 use crate::plan::Plan;
 use call_cases::end_status;
 use crew::{Crew, MeanSteps};
-use gp_base::{Inputs, Limits, Sink, Text};
+use gp_base::{Sink, Text};
 use gp_resume::{ResumeStop, ends_no_line, put, resume_paced};
 use lock_checker::Checked;
 use reorder_list::Report;
@@ -18,7 +17,6 @@ use restart_log::tail_text;
 use std::alloc::Global;
 use std::thread::Threads;
 use subthread::Work;
-use task_ast::Layout;
 
 /// The line before the printed lines.
 const OUTPUT: &[u8] = b"output\n";
@@ -44,32 +42,6 @@ fn put_tail<O: Sink>(
 {
     let tail = tail_text(alloc, checked, report)?;
     put(out, tail.as_slice())
-}
-
-// Goes on with the run of a code by a crew to which nothing was posted, and writes the printed lines.
-fn drive_rest<R: Threads + Sync, C: Crew, O: Sink>(
-    rt: &R,
-    alloc: Global,
-    code: &Work,
-    layout: Layout,
-    inputs: Inputs,
-    limits: Limits,
-    log: &Text,
-    mean_steps: &MeanSteps,
-    crew: &mut C,
-    out: &mut O,
-) -> Result<(u64, Report), ResumeStop>
-    requires suits { Suits code.now layout inputs limits }
-    requires short { length log.now ≤ MOST_FILE_BYTES }
-    requires ready { C.ready crew.old }
-    requires work { C.work crew.old ≡ code.now }
-    requires none_out { C.out crew.old ≡ [] }
-    requires none_posted { C.posted crew.old ≡ [] }
-    ensures { Drives (program_in code.now) inputs limits log.now (change_of O.written O.faults out.old out.new) result }
-{
-    resume_paced(
-        rt, alloc, code, layout, inputs, limits, log, mean_steps, crew, out,
-    )
 }
 
 /// Goes on with the run of a plan from the text of its log, by a crew to which nothing was posted, with the table in which
@@ -103,7 +75,7 @@ pub fn put_rest<R: Threads + Sync, C: Crew, O: Sink>(
         Ok(()) => {}
         Err(stop) => return Err(stop),
     }
-    let report = match drive_rest(
+    let report = match resume_paced(
         rt, alloc, code, layout, inputs, limits, log, mean_steps, crew, out,
     ) {
         Ok((_, report)) => report,

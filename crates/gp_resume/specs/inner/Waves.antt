@@ -1,5 +1,5 @@
 -- What goes out together, and what of it has come back.
-use Rattle.std.specs.Prelude.{◌≡◌, ◌⊎◌, ⊤, false, ℕ, ◌+◌, ◌<◌, List, [], ◌∷◌, ◌++◌, length, map, Contains, Option, Some, None, slice_get}
+use Rattle.std.specs.Prelude.{◌≡◌, ◌⊎◌, ⊤, false, ℕ, ◌+◌, ◌<◌, ◌≤◌, List, [], ◌∷◌, ◌++◌, length, map, Contains, Option, Some, None, slice_get}
 use Rattle.std.specs.Io.KnownBytes.{Appends}
 use Rattle.task_ast.specs.meaning.Plain.{Subthread}
 use Rattle.task_ast.specs.Plain.{Plain}
@@ -35,6 +35,10 @@ abbrev pub AreEmpty : List Task → List (Option Done) → Type 0
 AreEmpty [] [] = ⊤
 AreEmpty (task ∷ tasks) (place ∷ places) = (place ≡ None) × AreEmpty tasks places
 AreEmpty _ _ = ⊥
+
+-- one task is out
+abbrev pub IsOne : List Task → Type 0
+IsOne out = (task : Task) × (out ≡ task ∷ [])
 
 -- of the tasks, some are out, and the runs of the others are in their places
 pub record Filling (work : Work) (tasks out : List Task) (places : List (Option Done)) : Type 0 where
@@ -127,6 +131,13 @@ module _ (plan : Plan) where
     pub flight : Flight plan threads x later flights course
     pub out_are : out ≡ tasks_of plan x flights
     pub posts : posted ≡ before ++ firsts_from x.table.issued (length flights)
+
+  -- some are out so; before they were posted, none of the positions from theirs on had been
+  pub record IsSent (threads : ℕ) (posted : List (ℕ × ℕ)) (out : List Task) (course : Course) : Type 0 where
+    pub before : Plain
+    pub posted_before : List (ℕ × ℕ)
+    pub fresh : (p : ℕ) → before.table.issued ≤ p → ¬ Contains posted_before (p, 0)
+    pub sent : Sent threads before posted_before posted out course
 
   -- the run went on from x by these subthreads
   pub record WentBy (x : Plain) (written written' : Option (List ℕ)) (before posted : List (ℕ × ℕ)) (course : Course) : Type 0 where

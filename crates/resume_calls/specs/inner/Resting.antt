@@ -10,14 +10,13 @@ use Rattle.lock_checker.specs.Accepted.{program_of}
 use Rattle.subthread.specs.declared.task.Work.{Work}
 use Rattle.subthread.specs.Tasks.{Suits, program_in}
 use Rattle.reorder_list.specs.declared.report.Report.{Report}
-use Rattle.restart_log.specs.meaning.Lines.{printed}
 use Rattle.restart_log.specs.meaning.Tail.{tail_text}
 use Rattle.retirement_log.specs.meaning.Rows.{Retirement}
 use Rattle.gp_resume.specs.declared.stop.ResumeStop.{ResumeStop}
 use Rattle.gp_resume.specs.declared.stop.ResumeStop.TheVariants.{LogLine, LogFit, WriteFault, OutOfMemory}
 use Rattle.gp_resume.specs.meaning.Reading.{EndsNoLine, IsLogOf}
 use Rattle.gp_resume.specs.meaning.Resumed as rest
-use Rattle.gp_resume.specs.Resuming.{AnswersLog, IsRefused, ReportsRest, HasResumeCause}
+use Rattle.gp_resume.specs.Resuming.{AnswersLog, IsRefused, HasNoRows, HasResumeCause}
 use Rattle.call_cases.specs.declared.reading.Refusal.{Refusal}
 use Rattle.call_cases.specs.meaning.Answers.{Change, TakesAll, TakesPart, IsUntouched, Fails}
 use Rattle.call_cases.specs.Answers.{LineEnds}
@@ -53,26 +52,10 @@ pub record PutsTail {T : Type 0} (program : Program) (report : Report) (out : Ch
   pub cause : HasResumeCause out.faults out.faults' result
 
 module _ (program : Program) (inputs : Inputs) (limits : Limits) (bytes : List ℕ) (out : Change) where
-  -- the bytes of the log come to no rows
-  abbrev pub HasNoRows : Type 0
-  HasNoRows = (rows : List Retirement) → IsLogOf program inputs limits bytes rows → ⊥
-
-  -- The lines that are still to come were written, or a part of them; nothing, where the log is refused.
-  pub record Drives (result : Result (ℕ × Report) ResumeStop) : Type 0 where
-    pub log : AnswersLog program inputs limits bytes result
-    pub unread : HasNoRows → IsUntouched out
-    pub report : IfOk result (λ answer. (rows : List Retirement) → IsLogOf program inputs limits bytes rows
-        → ReportsRest program inputs limits rows answer.0 answer.1)
-    pub lines : OnOk result ((rows : List Retirement) → IsLogOf program inputs limits bytes rows
-        → TakesAll out (printed (rest.lines program inputs limits rows)))
-    pub partly : (rows : List Retirement) → IsLogOf program inputs limits bytes rows
-        → TakesPart out (printed (rest.lines program inputs limits rows))
-    pub cause : HasResumeCause out.faults out.faults' result
-
   -- The text that is still to come was written, or a part of it; nothing, where the log is refused. The answer is the status.
   pub record Resumes (result : Result ℕ ResumeStop) : Type 0 where
     pub log : AnswersLog program inputs limits bytes result
-    pub unread : HasNoRows → IsUntouched out
+    pub unread : HasNoRows program inputs limits bytes → IsUntouched out
     pub status : IfOk result (λ status. (rows : List Retirement) → IsLogOf program inputs limits bytes rows
         → status ≡ end_status (rest.end program inputs limits rows))
     pub all : OnOk result ((rows : List Retirement) → IsLogOf program inputs limits bytes rows

@@ -2,7 +2,7 @@ use Rattle.std.proofs.Common.{◌≡◌, ℕ, List, [], ◌∷◌, length, None,
 use Rattle.task_ast.specs.Plain.{Plain}
 use Rattle.gp_resume.specs.inner.Flights.{Flown, Flight}
 use Rattle.gp_resume.specs.inner.Waves.{tasks_of, AreRunsOf, Homing}
-use Rattle.gp_resume.proofs.Homings.{homing-last, homing-part, homing-next, Coming, coming, coming-comes, coming-seat, coming-spot, coming-thread, coming-child, coming-then, coming-stops}
+use Rattle.gp_resume.proofs.Homings.{homing-last, homing-part, homing-next, Coming, coming, coming-may, coming-then, coming-stops}
 use Rattle.gp_resume.proofs.waves.bring_home.Goals as goal
 use Rattle.gp_resume.proofs.waves.bring_home.Goals.{In-Some-run}
 
@@ -21,52 +21,19 @@ next g c threads x y fs flight are =
     c.in-Some.run' c.loop-run.run-iterator.rest.items c.next.new.self.rest.items c.in-Some-run.done c.loop-run.course
     c.in-Some.ensures.steps.0 c.in-Some-run.is (c.loop-run.invariant.homing threads x y fs flight are)
 
-pub take-lines-requires-clause-comes : goal.take-lines-requires-clause-comes
-take-lines-requires-clause-comes g c =
-    let at = (goal.at.take-lines-requires-clause-comes g c).In-Some-run in
+pub bring-requires : goal.bring-requires
+bring-requires g c =
+    let at = (goal.at.bring-requires g c).In-Some-run in
     let k = c.requires.coming in
-    coming-comes c.args._plan.now c.requires.suits k.threads k.later k.flights _ _ c.in-Some-run.done _ c.loop-run.course
+    coming-may c.args._plan.now c.requires.suits k.threads k.later k.flights _ _ c.in-Some-run.done _ c.loop-run.course
     (next g at k.threads k.before k.later k.flights k.flight k.runs_are)
 
-pub take-lines-requires-clause-thread : goal.take-lines-requires-clause-thread
-take-lines-requires-clause-thread g c =
-    let at = (goal.at.take-lines-requires-clause-thread g c).In-Some-run in
-    let k = c.requires.coming in
-    coming-thread c.args._plan.now c.requires.suits k.threads k.later k.flights _ _ c.in-Some-run.done _ c.loop-run.course
-    (next g at k.threads k.before k.later k.flights k.flight k.runs_are)
-
-pub take-lines-requires-clause-child : goal.take-lines-requires-clause-child
-take-lines-requires-clause-child g c =
-    let at = (goal.at.take-lines-requires-clause-child g c).In-Some-run in
-    let k = c.requires.coming in
-    coming-child c.args._plan.now c.requires.suits k.threads k.later k.flights _ _ c.in-Some-run.done _ c.loop-run.course
-    (next g at k.threads k.before k.later k.flights k.flight k.runs_are)
-
-pub take-lines-requires-clause-seats : goal.take-lines-requires-clause-seats
-take-lines-requires-clause-seats g c =
-    let at = (goal.at.take-lines-requires-clause-seats g c).In-Some-run in
-    let k = c.requires.coming in
-    coming-seat c.args._plan.now c.requires.suits k.threads k.later k.flights _ _ c.in-Some-run.done _ c.loop-run.course
-    (next g at k.threads k.before k.later k.flights k.flight k.runs_are)
-
-pub take-lines-requires-clause-spots : goal.take-lines-requires-clause-spots
-take-lines-requires-clause-spots g c =
-    let at = (goal.at.take-lines-requires-clause-spots g c).In-Some-run in
-    let k = c.requires.coming in
-    coming-spot c.args._plan.now c.requires.suits k.threads k.later k.flights _ _ c.in-Some-run.done _ c.loop-run.course
-    (next g at k.threads k.before k.later k.flights k.flight k.runs_are)
-
-pub returns-in_err-text-in-Some-run-clause-partly : goal.returns-in_err-text-in-Some-run-clause-partly
-returns-in_err-text-in-Some-run-clause-partly g c threads x y fs flight are =
-    homing-part c.args._plan.now c.requires.suits threads y fs (g.O.Sink.written c.args.out.now) (g.O.Sink.written c.loop-run.out)
-    c.loop-run.run-iterator.rest.items c.loop-run.course (c.loop-run.invariant.homing threads x y fs flight are)
-
-pub returns-in_err-put-in-Some-run-clause-partly : goal.returns-in_err-put-in-Some-run-clause-partly
-returns-in_err-put-in-Some-run-clause-partly g c threads x y fs flight are =
-    let at = (goal.at.returns-in_err-put-in-Some-run-clause-partly g c).In-Some-run in
+pub returns-in_err-bring-in-Some-run-clause-partly : goal.returns-in_err-bring-in-Some-run-clause-partly
+returns-in_err-bring-in-Some-run-clause-partly g c threads x y fs flight are =
+    let at = (goal.at.returns-in_err-bring-in-Some-run-clause-partly g c).In-Some-run in
     coming-stops c.args._plan.now c.requires.suits threads y fs (g.O.Sink.written c.args.out.now) (g.O.Sink.written c.loop-run.out)
-    c.in-Some-run.done c.next.new.self.rest.items c.loop-run.course (next g at threads x y fs flight are) (g.O.Sink.written c.put.new.out)
-    (rw (sym c.take-lines.ensures.lines, sym c.in_ok-text-in-Some-run.ensures, sym c.deref.ensures.value) c.put.ensures.prefix)
+    c.in-Some-run.done c.next.new.self.rest.items c.loop-run.course (next g at threads x y fs flight are) (g.O.Sink.written c.bring.new.out)
+    c.bring.ensures.partly
 
 pub loop-run-preserved : goal.loop-run-preserved
 loop-run-preserved g c =
@@ -74,10 +41,9 @@ loop-run-preserved g c =
     record {
       homing = λ threads x y fs flight are.
           coming-then c.args._plan.now c.requires.suits threads y fs (g.O.Sink.written c.args.out.now) (g.O.Sink.written c.loop-run.out)
-          c.in-Some-run.done c.next.new.self.rest.items c.loop-run.course (next g at threads x y fs flight are) (g.O.Sink.written c.put.new.out)
-          c.take-lines.new.course c.take-lines.ensures.left
-          (rw (sym c.take-lines.ensures.lines, sym c.in_ok-text-in-Some-run.ensures, sym c.deref.ensures.value) c.in_ok-put-in-Some-run.ensures.all);
-      later = let first = c.loop-run.invariant.later in let then = c.put.ensures.cause.later in omega arith;
+          c.in-Some-run.done c.next.new.self.rest.items c.loop-run.course (next g at threads x y fs flight are)
+          (g.O.Sink.written c.bring.new.out) c.bring.new.course c.bring.ensures.left c.in_ok-bring-in-Some-run.ensures.lines;
+      later = let first = c.loop-run.invariant.later in let then = c.bring.ensures.cause.later in omega arith;
     }
 
 pub unreachable-requires : goal.unreachable-requires

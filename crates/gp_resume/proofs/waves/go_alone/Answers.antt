@@ -1,0 +1,43 @@
+use Rattle.std.proofs.Common.{◌≡◌, [], ◌∷◌, Some, refl, sym, ◌∙◌}
+use Rattle.gp_resume.specs.inner.Waves.{AreRunsOf}
+use Rattle.gp_resume.proofs.Fillings.{run-of-one}
+use Rattle.gp_resume.proofs.WavesGone.{alone-may, alone-partly, alone-went}
+use Rattle.std.proofs.lemmas.Result.{on_ok_weaker}
+use Rattle.gp_resume.proofs.waves.go_alone.Goals as goal
+use Rattle.gp_resume.proofs.waves.go_alone.Goals.{In-Some}
+
+-- it came back, and none is out
+back : (g : _) (c : In-Some g)
+    → (g.C.Crew.out c.next.new.self ≡ []) × AreRunsOf (g.C.Crew.work c.args.crew.now) (g.C.Crew.out c.args.crew.now) (Some c.in-Some.done ∷ [])
+back g c =
+    run-of-one (g.C.Crew.work c.args.crew.now) (g.C.Crew.out c.args.crew.now) (g.C.Crew.out c.next.new.self) c.in-Some.done c.requires.one
+    (rw c.in-Some.is at c.in_ok-done.ensures.taken) (rw c.in-Some.is at c.in_ok-done.ensures.run)
+
+pub bring-requires : goal.bring-requires
+bring-requires g c =
+    let at = (goal.at.bring-requires g c).In-Some in
+    let k = c.requires.sent in
+    alone-may c.args._plan.now k.0 k.1.before k.1.posted_before (g.C.Crew.posted c.args.crew.now) (g.C.Crew.out c.args.crew.now)
+    c.args.course.now k.1.sent c.requires.suits (g.C.Crew.work c.args.crew.now) c.in-Some.done c.requires.work (back g at).1
+    (g.O.Sink.written c.args.out.now)
+
+pub returns-clause-went : goal.returns-clause-went
+returns-clause-went g c =
+    let at = (goal.at.returns-clause-went g c).In-Some in
+    on_ok_weaker c.bring.result
+    (λ wrote threads x before sent. alone-went c.args._plan.now threads x before (g.C.Crew.posted c.args.crew.now)
+    (g.C.Crew.out c.args.crew.now) c.args.course.now sent c.requires.suits (g.C.Crew.work c.args.crew.now) c.in-Some.done c.requires.work
+    (back g at).1 (g.O.Sink.written c.args.out.now) (g.O.Sink.written c.bring.new.out) (g.C.Crew.posted c.next.new.self) c.bring.new.course
+    c.next.ensures.posted c.bring.ensures.left wrote)
+    c.bring.ensures.lines
+
+pub returns-clause-partly : goal.returns-clause-partly
+returns-clause-partly g c threads x before sent =
+    let at = (goal.at.returns-clause-partly g c).In-Some in
+    alone-partly c.args._plan.now threads x before (g.C.Crew.posted c.args.crew.now) (g.C.Crew.out c.args.crew.now) c.args.course.now sent
+    c.requires.suits (g.C.Crew.work c.args.crew.now) c.in-Some.done c.requires.work (back g at).1 (g.O.Sink.written c.args.out.now)
+    (g.O.Sink.written c.bring.new.out) c.bring.ensures.partly
+
+pub unreachable-requires : goal.unreachable-requires
+unreachable-requires g c =
+    let none = sym c.requires.one.1 ∙ (rw c.in-None.is at c.in_ok-done.ensures.idle).0 refl in cc none
