@@ -2,7 +2,7 @@
 
 use gp_base::Name;
 use std::alloc::{AllocError, Global};
-use task_parser::{Kind, Token, lex};
+use task_parser::{Kind, LexFault, Token, lex};
 use text_places::{bytes_of, first_place, push_marked};
 
 const OPEN_BRACKET: Kind = Kind::Mark(0);
@@ -33,13 +33,14 @@ pub fn push_source(
     line: u32,
     array: &Name,
 ) -> Result<(), AllocError> {
-    let Ok(tokens) = lex(alloc, source) else {
-        return Ok(());
+    let tokens = match lex(alloc, source) {
+        Ok(tokens) => tokens,
+        Err(LexFault::OutOfMemory) => return Err(AllocError),
+        Err(_) => return Ok(()),
     };
-    let tokens = tokens.as_slice();
-    let place = match only_cell(source, tokens, line, array) {
+    let place = match only_cell(source, tokens.as_slice(), line, array) {
         Some(at) => Some(at),
-        None => first_place(tokens, line),
+        None => first_place(tokens.as_slice(), line),
     };
     match place {
         Some(at) => push_marked(text, source, at as usize),

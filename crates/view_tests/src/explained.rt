@@ -743,8 +743,8 @@ line 1: arithmetic divided by 0, once, first at position 0, thread 0
 
 const CELLS: &str = "lock l[3];
 lock m[2];
-record acct[3] by l from \"moves.csv\";
 record sums[3] by l;
+record acct[3] by l from \"moves.csv\";
 record fees[2] by m from \"moves.csv\";
 task main() { }
 ";
