@@ -15,6 +15,7 @@ use Rattle.call_cases.specs.meaning.Answers.{Change, TakesAll, TakesPart, Fails}
 use Rattle.call_cases.specs.Answers.{LineEnds}
 use Rattle.call_cases.specs.Refusals.{RefusesShelf}
 use Rattle.view_calls.specs.Lines.{fault_line, fault_status}
+use Rattle.explain_calls.specs.declared.reading.Readied.{Readied}
 use Rattle.explain_calls.specs.declared.reading.Explained.{Explained}
 use Rattle.explain_calls.specs.meaning.Fronts.{IsHint, IsText}
 
@@ -28,9 +29,9 @@ pub data TellEnds (text : List ℕ) (due : ℕ) (line : List ℕ) (out err : Cha
 abbrev pub RunTold : ToDo → Change → Change → ℕ → Type 0
 RunTold work out err status = (text : List ℕ) × IsText (Go [] work) text × TellEnds text (end_status (plain_ran work).end) [] out err status
 
--- the refusal alone
-abbrev pub plainly : Result Request Explained → Result Request Refusal
-plainly (Ok request) = Ok request
+-- the request, or the refusal, alone
+abbrev pub plainly : Result Readied Explained → Result Request Refusal
+plainly (Ok read) = Ok read.request
 plainly (Err explained) = Err explained.refusal
 
 -- the same refusal, or that memory is out
@@ -55,6 +56,6 @@ abbrev pub LeavesShelf : Option Asked → (before now : List Name) → Refusal �
 LeavesShelf asked before now (BadInput line) = ⊤
 LeavesShelf asked before now refusal = RefusesShelf MayRead asked before now refusal
 
-abbrev pub ReadsShelf : Option Asked → (before now : List Name) → Result Request Explained → Type 0
-ReadsShelf asked before now (Ok request) = now ≡ before
+abbrev pub ReadsShelf : Option Asked → (before now : List Name) → Result Readied Explained → Type 0
+ReadsShelf asked before now (Ok read) = now ≡ before
 ReadsShelf asked before now (Err explained) = LeavesShelf asked before now explained.refusal

@@ -1,6 +1,8 @@
 // Which cell is not there, where a run is stuck at an index.
 
 use crate::counts::push_many;
+use crate::handles::push_handle;
+use crate::sources::push_source;
 use crate::threads::push_names;
 use call_cases::{Request, copied_feeds};
 use gp_base::{Feed, Name, Seq, ThreadNo};
@@ -14,6 +16,22 @@ use task_ast::{Atom, Env, Expr, Head, Program, Stmt, What, eval_d};
 struct Here<'a> {
     heads: &'a [Head],
     env: &'a Env,
+}
+
+// A cell that is not there: one of a lock array or a record of this size, or one of a feed.
+#[derive(Clone, Copy)]
+enum Missing<'a> {
+    Cell {
+        array: &'a Name,
+        index: &'a Atom,
+        at: i64,
+        size: i64,
+    },
+    Fed {
+        feed: &'a Name,
+        row: i64,
+        field: i64,
+    },
 }
 
 /// The value of a control variable, or 0.
@@ -42,23 +60,141 @@ fn size_of(heads: &[Head], array: &Name) -> Option<i64> {
     None
 }
 
-// Appends a cell of an array that is not there, and answers whether it is none.
-fn push_outside(
-    text: &mut Vec<u8>,
-    here: &Here,
-    array: &Name,
-    index: &Atom,
-) -> Result<bool, AllocError> {
+// A cell of an array, where it is not there.
+fn outside<'a>(here: &Here, array: &'a Name, index: &'a Atom) -> Option<Missing<'a>> {
     let at = match index {
         Atom::Num(value) => *value,
         Atom::Var(name) => value_of(here.env.names.as_slice(), name),
     };
-    let Some(size) = size_of(here.heads, array) else {
-        return Ok(false);
-    };
+    let size = size_of(here.heads, array)?;
     if 0 <= at && at < size {
-        return Ok(false);
+        return None;
     }
+    Some(Missing::Cell {
+        array,
+        index,
+        at,
+        size,
+    })
+}
+
+// The first cell of a feed that an expression names and that is not there.
+fn find_in<'a>(here: &Here, e: &'a Expr) -> Option<Missing<'a>> {
+    match e {
+        Expr::Cell(feed, row, field) => {
+            if let Some(missing) = find_in(here, row) {
+                return Some(missing);
+            }
+            if let Some(missing) = find_in(here, field) {
+                return Some(missing);
+            }
+            if eval_d(e, here.env).is_some() {
+                return None;
+            }
+            Some(Missing::Fed {
+                feed,
+                row: eval_d(row, here.env).unwrap_or(0),
+                field: eval_d(field, here.env).unwrap_or(0),
+            })
+        }
+        Expr::Neg(a) => find_in(here, a),
+        Expr::Not(a) => find_in(here, a),
+        Expr::Chain(first, links) => {
+            if let Some(missing) = find_in(here, first) {
+                return Some(missing);
+            }
+            for link in links.as_slice() {
+                if let Some(missing) = find_in(here, &link.1) {
+                    return Some(missing);
+                }
+            }
+            None
+        }
+        _ => None,
+    }
+}
+
+fn find_among<'a>(here: &Here, es: &'a [Expr]) -> Option<Missing<'a>> {
+    for e in es {
+        if let Some(missing) = find_in(here, e) {
+            return Some(missing);
+        }
+    }
+    None
+}
+
+// The first cell that a statement names before it does anything else and that is not there.
+#[cycle(finding)]
+fn find_at<'a>(here: &Here, what: &'a What) -> Option<Missing<'a>> {
+    match what {
+        What::SetCtl(_, e) => find_in(here, e),
+        What::SetReg(_, e) => find_in(here, e),
+        What::While(e, _) => find_in(here, e),
+        What::If(e, _, _) => find_in(here, e),
+        What::Join(e, _) => find_in(here, e),
+        What::Lock(array, index) => outside(here, array, index),
+        What::Unlock(array, index) => outside(here, array, index),
+        What::Read(record, index, _) => outside(here, record, index),
+        What::Write(record, index, e) => match find_in(here, e) {
+            Some(missing) => Some(missing),
+            None => outside(here, record, index),
+        },
+        What::Fork(_, es, _) => find_among(here, es.as_slice()),
+        What::Print(es) => find_among(here, es.as_slice()),
+        What::When(e, first, second) => {
+            if let Some(missing) = find_in(here, e) {
+                return Some(missing);
+            }
+            match find_all(here, first.as_slice()) {
+                Some(missing) => Some(missing),
+                None => find_all(here, second.as_slice()),
+            }
+        }
+        What::Barrier(_) | What::Settle(_, _) => None,
+    }
+}
+
+#[cycle(finding)]
+fn find_all<'a>(here: &Here, block: &'a [Stmt]) -> Option<Missing<'a>> {
+    for stmt in block {
+        if let Some(missing) = find_at(here, &stmt.what) {
+            return Some(missing);
+        }
+    }
+    None
+}
+
+// The same of the statements in a line.
+fn find_in_line<'a>(here: &Here, block: &'a [Stmt], line: u32) -> Option<Missing<'a>> {
+    for stmt in block {
+        if stmt.line == line {
+            if let Some(missing) = find_at(here, &stmt.what) {
+                return Some(missing);
+            }
+        }
+        let found = match &stmt.what {
+            What::While(_, body) => find_in_line(here, body.as_slice(), line),
+            What::If(_, first, second) => match find_in_line(here, first.as_slice(), line) {
+                Some(missing) => Some(missing),
+                None => find_in_line(here, second.as_slice(), line),
+            },
+            _ => None,
+        };
+        if found.is_some() {
+            return found;
+        }
+    }
+    None
+}
+
+// Appends a cell of an array that is not there, and how many the array has.
+fn push_outside(
+    text: &mut Vec<u8>,
+    array: &Name,
+    index: &Atom,
+    at: i64,
+    size: i64,
+) -> Result<(), AllocError> {
     text.extend_from_slice(array.as_slice())?;
     match index {
         Atom::Num(value) => push_between(text, b"[", *value, b"]")?,
@@ -74,8 +210,7 @@ fn push_outside(
     text.extend_from_slice(array.as_slice())?;
     text.extend_from_slice(b" has ")?;
     push_many(text, size.unsigned_abs(), b" cell")?;
-    push_between(text, b", 0 to ", size.saturating_sub(1), b"\n")?;
-    Ok(true)
+    push_between(text, b", 0 to ", size.saturating_sub(1), b"\n")
 }
 
 // Appends how many rows and fields a feed has.
@@ -111,114 +246,33 @@ fn push_no_cell(
     text.extend_from_slice(b"\n")
 }
 
-// Appends the first cell of a feed that an expression names and that is not there, and answers whether one is.
-fn find_in(text: &mut Vec<u8>, here: &Here, e: &Expr) -> Result<bool, AllocError> {
-    match e {
-        Expr::Cell(feed, row, field) => {
-            if find_in(text, here, row)? || find_in(text, here, field)? {
-                return Ok(true);
-            }
-            if eval_d(e, here.env).is_some() {
-                return Ok(false);
-            }
-            let row = eval_d(row, here.env).unwrap_or(0);
-            let field = eval_d(field, here.env).unwrap_or(0);
-            push_no_cell(text, here, feed, row, field)?;
-            Ok(true)
-        }
-        Expr::Neg(a) => find_in(text, here, a),
-        Expr::Not(a) => find_in(text, here, a),
-        Expr::Chain(first, links) => {
-            if find_in(text, here, first)? {
-                return Ok(true);
-            }
-            for link in links.as_slice() {
-                if find_in(text, here, &link.1)? {
-                    return Ok(true);
-                }
-            }
-            Ok(false)
-        }
-        _ => Ok(false),
-    }
-}
-
-fn find_among(text: &mut Vec<u8>, here: &Here, es: &[Expr]) -> Result<bool, AllocError> {
-    for e in es {
-        if find_in(text, here, e)? {
-            return Ok(true);
-        }
-    }
-    Ok(false)
-}
-
-// The same of the first cell that a statement names before it does anything else.
-#[cycle(finding)]
-fn find_at(text: &mut Vec<u8>, here: &Here, what: &What) -> Result<bool, AllocError> {
-    match what {
-        What::SetCtl(_, e) => find_in(text, here, e),
-        What::SetReg(_, e) => find_in(text, here, e),
-        What::While(e, _) => find_in(text, here, e),
-        What::If(e, _, _) => find_in(text, here, e),
-        What::Join(e, _) => find_in(text, here, e),
-        What::Lock(array, index) => push_outside(text, here, array, index),
-        What::Unlock(array, index) => push_outside(text, here, array, index),
-        What::Read(record, index, _) => push_outside(text, here, record, index),
-        What::Write(record, index, e) => {
-            if find_in(text, here, e)? {
-                return Ok(true);
-            }
-            push_outside(text, here, record, index)
-        }
-        What::Fork(_, es, _) => find_among(text, here, es.as_slice()),
-        What::Print(es) => find_among(text, here, es.as_slice()),
-        What::When(e, first, second) => {
-            if find_in(text, here, e)? || find_all(text, here, first.as_slice())? {
-                return Ok(true);
-            }
-            find_all(text, here, second.as_slice())
-        }
-        What::Barrier(_) | What::Settle(_, _) => Ok(false),
-    }
-}
-
-#[cycle(finding)]
-fn find_all(text: &mut Vec<u8>, here: &Here, block: &[Stmt]) -> Result<bool, AllocError> {
-    for stmt in block {
-        if find_at(text, here, &stmt.what)? {
-            return Ok(true);
-        }
-    }
-    Ok(false)
-}
-
-// The same of the statements in a line.
-fn find_in_line(
+// Appends a cell that is not there, the line of the program that names it, and where its index comes from, if that is a
+// thread's number.
+fn push_missing(
+    alloc: Global,
     text: &mut Vec<u8>,
     here: &Here,
-    block: &[Stmt],
+    source: &[u8],
+    body: &[Stmt],
     line: u32,
-) -> Result<bool, AllocError> {
-    for stmt in block {
-        if stmt.line == line && find_at(text, here, &stmt.what)? {
-            return Ok(true);
+    missing: Missing<'_>,
+) -> Result<(), AllocError> {
+    match missing {
+        Missing::Cell {
+            array,
+            index,
+            at,
+            size,
+        } => {
+            push_outside(text, array, index, at, size)?;
+            push_source(alloc, text, source, line, array)?;
+            push_handle(text, body, index)
         }
-        let found = match &stmt.what {
-            What::While(_, body) => find_in_line(text, here, body.as_slice(), line)?,
-            What::If(_, first, second) => {
-                if find_in_line(text, here, first.as_slice(), line)? {
-                    true
-                } else {
-                    find_in_line(text, here, second.as_slice(), line)?
-                }
-            }
-            _ => false,
-        };
-        if found {
-            return Ok(true);
+        Missing::Fed { feed, row, field } => {
+            push_no_cell(text, here, feed, row, field)?;
+            push_source(alloc, text, source, line, feed)
         }
     }
-    Ok(false)
 }
 
 // The feeds of a run by their names.
@@ -255,12 +309,13 @@ fn names_again(
     Ok(names)
 }
 
-/// Appends which cell is not there that a thread names in a line, and the control variables of the thread. The error is
-/// that memory is out.
+/// Appends which cell is not there that a thread names in a line of this program, that line, and the control variables of
+/// the thread. The error is that memory is out.
 pub fn push_index(
     alloc: Global,
     text: &mut Vec<u8>,
     request: &Request,
+    source: &[u8],
     thread: ThreadNo,
     line: u32,
     standing: &Standing,
@@ -275,7 +330,9 @@ pub fn push_index(
     };
     let here = Here { heads, env: &env };
     for task in program.tasks.as_slice() {
-        if find_in_line(text, &here, task.body.as_slice(), line)? {
+        let body = task.body.as_slice();
+        if let Some(missing) = find_in_line(&here, body, line) {
+            push_missing(alloc, text, &here, source, body, line, missing)?;
             break;
         }
     }

@@ -2,14 +2,19 @@
 //! that are handed in.
 #![tactic(auto)]
 
+mod circles;
 mod counts;
 mod details;
 mod ended;
+mod first_cells;
+mod handles;
 mod indices;
 mod loops;
 mod reading;
 mod refused;
 mod running;
+mod sources;
+mod spent;
 mod threads;
 mod top;
 mod unread;

@@ -1,18 +1,13 @@
 // The loops around a place, and what their conditions name.
 
+use crate::counts::push_many;
 use crate::indices::value_of;
 use crate::threads::push_variable;
 use gp_base::Name;
+use run_counts::{Loop, Turned};
 use run_views::{push_labelled, push_number};
 use std::alloc::{AllocError, Global};
 use task_ast::{Expr, Stmt, TaskText, What};
-
-/// A loop.
-#[derive(Clone, Copy)]
-pub struct Loop<'a> {
-    pub line: u32,
-    pub condition: &'a Expr,
-}
 
 /// A place in a line: a loop, or a statement that begins a subthread.
 #[derive(Clone, Copy)]
@@ -42,7 +37,7 @@ fn is_at(stmt: &Stmt, place: Place) -> bool {
     }
 }
 
-// Puts the loops around the first statement at a place, the outermost first, behind others, if it is in this block. A loop at the place is the last of them.
+// Puts the loops around the first statement at a place, the outermost first, after others, if it is in this block. A loop at the place is the last of them.
 fn push_around<'a>(
     loops: &mut Vec<Loop<'a>>,
     block: &'a [Stmt],
@@ -122,7 +117,7 @@ fn is_among(names: &[&Name], name: &Name) -> bool {
     false
 }
 
-// Puts the control variables that an expression names behind others, each once.
+// Puts the control variables that an expression names after others, each once.
 fn put_names<'a>(names: &mut Vec<&'a Name>, e: &'a Expr) -> Result<(), AllocError> {
     match e {
         Expr::Ctl(name) => {
@@ -148,16 +143,20 @@ fn put_names<'a>(names: &mut Vec<&'a Name>, e: &'a Expr) -> Result<(), AllocErro
     }
 }
 
-// Appends the control variables that the condition of a loop names, with their values.
+// Appends how many turns a loop took since it was entered, and the control variables that its condition names, with their
+// values.
 fn push_condition(
     alloc: Global,
     text: &mut Vec<u8>,
-    around: Loop<'_>,
+    turned: Turned<'_>,
     values: &[(Name, i64)],
 ) -> Result<(), AllocError> {
     let mut names = Vec::new(alloc);
-    put_names(&mut names, around.condition)?;
-    push_labelled(text, b"loop in line ", around.line)?;
+    put_names(&mut names, turned.around.condition)?;
+    push_labelled(text, b"loop in line ", turned.around.line)?;
+    text.extend_from_slice(b", ")?;
+    push_many(text, turned.turns, b" turn")?;
+    text.extend_from_slice(b" since it was entered")?;
     if names.is_empty() {
         return text.extend_from_slice(b": its condition names no control variable\n");
     }
@@ -169,24 +168,41 @@ fn push_condition(
     text.extend_from_slice(b"\n")
 }
 
-/// Appends that the condition of one of these loops may stay true, and the control variables that each names, with these values; nothing where there is no
-/// loop. The error is that memory is out.
+// Puts a loop among others by its turns, after those with more of them, and after those around it with as many.
+fn put_by_turns<'a>(sorted: &mut Vec<Turned<'a>>, turned: Turned<'a>) -> Result<(), AllocError> {
+    let mut place: usize = 0;
+    for other in sorted.as_slice() {
+        if other.turns >= turned.turns {
+            place = place.saturating_add(1);
+        }
+    }
+    let place = place.min(sorted.len());
+    sorted.insert(place, turned)?;
+    Ok(())
+}
+
+/// Appends that the condition of one of these loops may stay true, and of each, that with the most turns first, its turns and
+/// the control variables that it names, with these values; nothing where there is no loop. The error is that memory is out.
 pub fn push_conditions(
     alloc: Global,
     text: &mut Vec<u8>,
-    loops: &[Loop<'_>],
+    loops: &[Turned<'_>],
     values: &[(Name, i64)],
 ) -> Result<(), AllocError> {
     if loops.is_empty() {
         return Ok(());
     }
+    let mut sorted = Vec::new(alloc);
+    for turned in loops {
+        put_by_turns(&mut sorted, *turned)?;
+    }
     text.extend_from_slice(if loops.len() == 1 {
         b"hint: the condition of this loop may stay true:\n"
     } else {
-        b"hint: the condition of one of these loops may stay true:\n"
+        b"hint: the condition of one of these loops may stay true, of the first most likely:\n"
     })?;
-    for around in loops {
-        push_condition(alloc, text, *around, values)?;
+    for turned in &sorted {
+        push_condition(alloc, text, *turned, values)?;
     }
     Ok(())
 }

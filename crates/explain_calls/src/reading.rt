@@ -20,6 +20,13 @@ use command_line::Asked;
 use gp_base::{Name, Seq, Shelf, Text};
 use std::alloc::Global;
 
+/// The run that is to be told, and the text of its program.
+#[derive(Drop)]
+pub struct Readied {
+    pub request: Request,
+    pub source: Text,
+}
+
 /// Why there is no run to tell, and what is told of that.
 #[derive(Drop)]
 pub struct Explained {
@@ -120,11 +127,11 @@ fn untaken(alloc: Global, words: &[String]) -> Explained
 }
 
 // What is asked to be explained, with the program and the files beside it. The first refusal met is the answer.
-fn read_run<H: Shelf>(alloc: Global, asked: Asked, shelf: &mut H) -> Result<Request, Explained>
+fn read_run<H: Shelf>(alloc: Global, asked: Asked, shelf: &mut H) -> Result<Readied, Explained>
     requires { IsWithinLimits asked }
     ensures shelf { ReadsShelf (Some asked) (H.failed shelf.old) (H.failed shelf.new) result }
     ensures case { IfSome (H.files shelf.old) (λ files. AnswersCase case_of (IsCaseOf run.asking asked files) (plainly result)) }
-    ensures asked { IfOk result (λ request. request.asked ≡ asked) }
+    ensures asked { IfOk result (λ read. read.request.asked ≡ asked) }
     ensures text { IfErr result (λ explained. TextFor explained.refusal explained.text) }
 {
     let Ok(name) = asked.program.copied(alloc) else {
@@ -135,7 +142,10 @@ fn read_run<H: Shelf>(alloc: Global, asked: Asked, shelf: &mut H) -> Result<Requ
         Err(refusal) => return Err(unread(alloc, &name, refusal)),
     };
     match read_beside(alloc, asked, text.as_slice(), shelf) {
-        Ok(request) => Ok(request),
+        Ok(request) => Ok(Readied {
+            request,
+            source: text,
+        }),
         Err(refusal) => Err(told_by(alloc, &name, &text, refusal, shelf)),
     }
 }
@@ -146,13 +156,13 @@ pub fn read_explained<H: Shelf>(
     alloc: Global,
     words: &[String],
     shelf: &mut H,
-) -> Result<Request, Explained>
+) -> Result<Readied, Explained>
     ensures no_command { explained_by (texts words.now) ≡ None → AnswersNoCommand (plainly result) }
     ensures unread { explained_by (texts words.now) ≡ None → shelf.new ≡ shelf.old }
     ensures shelf { ReadsShelf (explained_by (texts words.now)) (H.failed shelf.old) (H.failed shelf.new) result }
     ensures case { IfSome (H.files shelf.old) (λ files. AnswersCase case_of (IsCase asking (texts words.now) files) (plainly result)) }
-    ensures asked { IfOk result (λ request. explained_by (texts words.now) ≡ Some request.asked) }
-    ensures within { IfOk result (λ request. IsWithinLimits request.asked) }
+    ensures asked { IfOk result (λ read. explained_by (texts words.now) ≡ Some read.request.asked) }
+    ensures within { IfOk result (λ read. IsWithinLimits read.request.asked) }
     ensures text { IfErr result (λ explained. TextFor explained.refusal explained.text) }
 {
     match read_words(alloc, words) {

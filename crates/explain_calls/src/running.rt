@@ -13,7 +13,9 @@ ghost use Rattle.call_cases.specs.meaning.Work.{Go};
 ghost use Rattle.explain_calls.specs.meaning.Fronts.{ending_line, front, IsText};
 
 use crate::counts::push_counts;
-use crate::details::{push_spent_details, push_stuck_details};
+use crate::details::push_stuck_details;
+use crate::first_cells::push_first_cells;
+use crate::spent::push_spent_details;
 use crate::threads::Tasks;
 use call_cases::Request;
 use gp_base::{End, Seq, Text, Why};
@@ -85,6 +87,7 @@ fn last_standing(alloc: Global, request: &Request, position: usize) -> Result<St
 fn front_of(
     alloc: Global,
     request: &Request,
+    source: &[u8],
     run: &PlainRun,
     rest: &mut Vec<u8>,
 ) -> Result<Vec<u8>, AllocError>
@@ -104,6 +107,7 @@ fn front_of(
                 alloc,
                 rest,
                 request,
+                source,
                 run.order.as_slice(),
                 (why, thread, line),
                 &standing,
@@ -113,8 +117,9 @@ fn front_of(
     }
 }
 
-/// What is told of a run on one thread, of which no fault strikes a subthread. The error is that memory is out.
-pub fn tell_of(alloc: Global, request: &Request) -> Result<Told, AllocError>
+/// What is told of a run on one thread of a program with this text, of which no fault strikes a subthread. The error is that
+/// memory is out.
+pub fn tell_of(alloc: Global, request: &Request, source: &[u8]) -> Result<Told, AllocError>
     requires { IsWithinLimits request.now.asked }
     ensures text { IfOk result (λ told. IsText (Go [] (work_of request.now)) told.text) }
     ensures end { let work = work_of request.now in IfOk result (λ told. told.end ≡ end work.program work.inputs work.limits) }
@@ -131,9 +136,10 @@ pub fn tell_of(alloc: Global, request: &Request) -> Result<Told, AllocError>
     let program = request.checked.program();
     let tasks = Tasks::new(alloc, program, run.order.as_slice())?;
     let mut rest = Vec::new(alloc);
-    let mut text = front_of(alloc, request, &run, &mut rest)?;
+    let mut text = front_of(alloc, request, source, &run, &mut rest)?;
     push_spent_details(alloc, &mut rest, request, &run, &counting, &tasks)?;
     push_counts(alloc, &mut rest, program, &run, &counting, &tasks)?;
+    push_first_cells(&mut rest, request)?;
     text.extend_from_slice(&rest)?;
     Ok(Told {
         text: Seq::from_vec(text),

@@ -16,12 +16,18 @@ use gp_base::{Shelf, Sink, SinkFault, put_all};
 use std::alloc::Global;
 use view_calls::{refuse, stop_with};
 
-// Tells a run, and answers the status.
-fn tell_run<O: Sink, E: Sink>(alloc: Global, request: &Request, out: &mut O, err: &mut E) -> u8
+// Tells a run of a program with this text, and answers the status.
+fn tell_run<O: Sink, E: Sink>(
+    alloc: Global,
+    request: &Request,
+    source: &[u8],
+    out: &mut O,
+    err: &mut E,
+) -> u8
     requires { IsWithinLimits request.now.asked }
     ensures { RunTold (work_of request.now) (change_of O.written O.faults out.old out.new) (change_of E.written E.faults err.old err.new) result }
 {
-    let Ok(told) = tell_of(alloc, request) else {
+    let Ok(told) = tell_of(alloc, request, source) else {
         return stop_with(SinkFault::OutOfMemory, err);
     };
     match put_all(out, told.text.as_slice()) {
@@ -72,7 +78,7 @@ pub fn explain_run<H: Shelf, O: Sink, E: Sink>(
     ensures unread { explained_by (texts words.now) ≡ None → shelf.new ≡ shelf.old }
 {
     match read_explained(alloc, words, shelf) {
-        Ok(request) => tell_run(alloc, &request, out, err),
+        Ok(read) => tell_run(alloc, &read.request, read.source.as_slice(), out, err),
         Err(explained) => tell_refusal(&explained, out, err),
     }
 }

@@ -4,6 +4,7 @@ ghost use Rattle.gp_base.specs.declared.limits.TheConstants.{MOST_PROGRAM_BYTES}
 ghost use Rattle.explain_calls.specs.meaning.Fronts.{IsHint};
 
 use crate::refused::program_of;
+use crate::usage::program_of_command;
 use gp_base::{Name, Text};
 use run_views::push_between;
 use std::alloc::{AllocError, Global};
@@ -102,12 +103,25 @@ fn push_folder(hints: &mut Vec<u8>, file: &Name) -> Result<(), AllocError> {
     }
 }
 
+// Appends that the name of a program is a command, where it is one.
+fn push_command(hints: &mut Vec<u8>, file: &Name) -> Result<(), AllocError> {
+    let Some(of) = program_of_command(file.as_slice()) else {
+        return Ok(());
+    };
+    hints.extend_from_slice(b"hint: `")?;
+    hints.extend_from_slice(file.as_slice())?;
+    hints.extend_from_slice(b"` is a command of ")?;
+    hints.extend_from_slice(of)?;
+    hints.extend_from_slice(b": after explain stands the name of a program alone\n")
+}
+
 /// What is told of the program's file, which could not be read. The error is that memory is out.
 pub fn unread_program(alloc: Global, file: &Name) -> Result<Vec<u8>, AllocError>
     ensures { IfOk result (λ told. IsHint told.items) }
 {
     let mut hints = Vec::new(alloc);
     hints.extend_from_slice(b"hint: it is the program of this call\n")?;
+    push_command(&mut hints, file)?;
     push_folder(&mut hints, file)?;
     with_hints(alloc, file, &hints)
 }

@@ -47,10 +47,12 @@ const OPTIONS: [Known; 5] = [
 
 const CREWS: [&[u8]; 5] = [b"one", b"wave", b"board", b"steal", b"pipe"];
 
-// The commands of `gprs`, of which `explain` takes none.
+// The commands of `gprs` and of `gprs_view`, of which `explain` takes none.
 const COMMANDS: [&[u8]; 8] = [
     b"run", b"one", b"check", b"log", b"resume", b"ckpt", b"audit", b"soak",
 ];
+
+const VIEW_COMMANDS: [&[u8]; 4] = [b"order", b"why", b"timeline", b"explain"];
 
 // Why words are not taken: the first of them that is not, or what they lack.
 #[derive(Clone, Copy)]
@@ -68,7 +70,10 @@ enum Untaken<'a> {
         most: u64,
     },
     NoCrew(&'a [u8]),
-    Command(&'a [u8]),
+    Command {
+        word: &'a [u8],
+        of: &'static [u8],
+    },
     SecondProgram(&'a [u8]),
     NoProgram,
 }
@@ -115,34 +120,38 @@ fn is_number(text: &[u8], most: u64) -> bool {
     1 <= number && number <= most
 }
 
+fn is_among(texts: &[&[u8]], text: &[u8]) -> bool {
+    for other in texts {
+        if *other == text {
+            return true;
+        }
+    }
+    false
+}
+
 fn is_crew(text: &[u8]) -> bool {
     let crews: [&[u8]; 5] = CREWS;
-    for crew in &crews {
-        if *crew == text {
-            return true;
-        }
-    }
-    false
+    is_among(&crews, text)
 }
 
-fn is_command(text: &[u8]) -> bool {
+/// The program of which a word is a command.
+pub fn program_of_command(word: &[u8]) -> Option<&'static [u8]> {
     let commands: [&[u8]; 8] = COMMANDS;
-    for command in &commands {
-        if *command == text {
-            return true;
-        }
-    }
-    false
-}
-
-// The word that stands where the program's name is looked for, if it is a command of `gprs`.
-fn first_command<'a>(words: &'a [String]) -> Option<Untaken<'a>> {
-    let word = words.get(1)?.as_str().as_bytes();
-    if is_command(word) {
-        Some(Untaken::Command(word))
+    let views: [&[u8]; 4] = VIEW_COMMANDS;
+    if is_among(&commands, word) {
+        Some(b"gprs")
+    } else if is_among(&views, word) {
+        Some(b"gprs_view")
     } else {
         None
     }
+}
+
+// The word that stands where the program's name is looked for, if it is a command.
+fn first_command<'a>(words: &'a [String]) -> Option<Untaken<'a>> {
+    let word = words.get(1)?.as_str().as_bytes();
+    let of = program_of_command(word)?;
+    Some(Untaken::Command { word, of })
 }
 
 // Why a value is not one of its option.
@@ -267,7 +276,7 @@ impl Read {
     }
 }
 
-// The first of the words after `explain` that is not taken, or what they lack. A command of `gprs` is told of before all others, since what follows it is read
+// The first of the words after `explain` that is not taken, or what they lack. A command is told of before all others, since what follows it is read
 // by its rules.
 fn first_untaken<'a>(
     alloc: Global,
@@ -336,12 +345,13 @@ fn push_untaken(text: &mut Vec<u8>, untaken: &Option<Untaken<'_>>) -> Result<(),
             word,
             b"`",
         ),
-        Some(Untaken::Command(word)) => push_word(
-            text,
-            b"`",
-            word,
-            b"` is a command of gprs: explain takes a program right away, and judges the words of `run` alone",
-        ),
+        Some(Untaken::Command { word, of }) => {
+            push_word(text, b"`", word, b"` is a command of ")?;
+            text.extend_from_slice(of)?;
+            text.extend_from_slice(
+                b": explain takes a program right away, and judges the words of `run` alone",
+            )
+        }
         Some(Untaken::SecondProgram(word)) => push_word(
             text,
             b"`",

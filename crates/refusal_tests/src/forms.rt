@@ -113,7 +113,7 @@ const PARSING: [Case; 25] = [
         b"task main() {\n  var i, $x;\n  read r[0] into i;\n}\n",
         UnknownName,
         1,
-        b"p.gp:3:18: `i` cannot stand here; a data variable was expected\n  read r[0] into i;\n                 ^\nparse 1: the first token that no program goes on with (parse 1 at byte 44)\nhint: data stands in a variable with a `$`: `into $x`\n",
+        b"p.gp:3:18: `i` cannot stand here; a data variable was expected\n  read r[0] into i;\n                 ^\nparse 1: the first token that no program goes on with (parse 1 at byte 44)\nhint: what is read is data: `read r[i] into $x;`, and `settle $x into c;` makes it a control value\n",
     ),
     (
         b"task t(i i) {\n}\n",

@@ -11,7 +11,7 @@ type Case = (&'static [u8], &'static [u8]);
 const BEFORE: &[u8] =
     b"lock bank[4];\nrecord acct[4] by bank;\nfeed moves[2] from \"moves.csv\";\nbarrier step(2);\ntask t(n) {\n}\ntask main() {\n  var i, j, $x;\n";
 
-const STATEMENTS: [Case; 86] = [
+const STATEMENTS: [Case; 94] = [
     (
         b"i = moves.rows;",
         b"no name has fields: `rows(f)` is the number of rows of feed f",
@@ -85,8 +85,22 @@ const STATEMENTS: [Case; 86] = [
     (b"barrier step[2];", b"write `barrier b;`"),
     (
         b"fork t(1) into $x;",
-        b"control variables, arrays, barriers and tasks are named without a `$`",
+        b"a fork gives the number of its thread: `fork t() into h; join h into $x;`",
     ),
+    (b"fork t(1) i;", b"write `fork t() into h;`"),
+    (b"join i $x;", b"write `join h into $x;`"),
+    (
+        b"join i into j;",
+        b"what a thread gives back is data: `join h into $x;`, and `settle $x into c;` makes it a control value",
+    ),
+    (
+        b"read acct[i] into j;",
+        b"what is read is data: `read r[i] into $x;`, and `settle $x into c;` makes it a control value",
+    ),
+    (b"read acct[i];", b"write `read r[i] into $x;`"),
+    (b"read acct[i] $x;", b"write `read r[i] into $x;`"),
+    (b"settle $x;", b"write `settle $x into c;`"),
+    (b"settle $x i;", b"write `settle $x into c;`"),
     (
         b"let k = 3;",
         b"write `var x;` before the first statement of the task, and then `x = 3;`",
@@ -132,7 +146,7 @@ const STATEMENTS: [Case; 86] = [
     (b"if i => 3 { }", b"write `<=` or `>=`"),
     (
         b"i = \"abc\";",
-        b"a text in quotes is the name of a file alone, behind `from`",
+        b"a text in quotes is the name of a file alone, after `from`",
     ),
     (
         b"rows = 3;",
@@ -155,7 +169,7 @@ const STATEMENTS: [Case; 86] = [
         b"else { }",
         b"an `else` follows the block of its `if` or `when` directly",
     ),
-    (b"while i { };", b"no `;` stands behind a block"),
+    (b"while i { };", b"no `;` stands after a block"),
     (b"if (i < 3 { }", b"a `(` is not closed"),
     (b"if i { print i }", b"a statement ends with `;`"),
     (

@@ -10,7 +10,19 @@ use task_ast::CheckKind::{
 // A program, the rule and the line that are told where it is one, and what is to be told of it.
 type Case = (&'static [u8], CheckKind, u32, &'static [u8]);
 
-const PLACES: [Case; 18] = [
+const PLACES: [Case; 20] = [
+    (
+        b"task main() { var i; i = 1; i = 1; i = 1; i = 1; i = 1; i = 1; i = 1; i = 1; i = 1; i = 1; i = 1; i = 1; i = 1; i = 1; i = 1; i = 1; i = 1; i = 1; i = 1; i = 1; i = j; }\n",
+        UnknownName,
+        1,
+        b"p.gp:1:166: j is no control variable of task main\n.. = 1; i = 1; i = 1; i = 1; i = 1; i = 1; i = 1; i = 1; i = 1; i = 1; i = 1; i = j; }\n                                                                                  ^\ncheck 1: a name has to be declared as what its place needs (check 1 at line 1)\nhint: `var j;` before the first statement of the task declares it\n",
+    ),
+    (
+        b"task main() { var i;\t\t\t\t\t\t\t\t\t\t\t\t\t\t\t\t\t\t\t\t\t\t\t\t\t\t\t\t\t\t\t\t\t\t\t\t\t\t\t\t\t\t\t\t\t\t\t\t\t\t\t\t\t\t\t\t\t\t\t\t\t\t\t\t\t\t\t\t\t\t\t\t\t\t\t\t\t\t\t\t\t\t\t\t\t\t\t\t\t\t\t\t\t\t\t\t\t\t\t\t\t\t\t\t\t\t\t\t\t\t\t\t\t\t\t\t\t\t\t\t\t\t\t\t\t\t\t\t\t\t\t\t\t\t\t\t\t\t\t\t i = j; i = 7; i = 7; i = 7; i = 7; i = 7; i = 7; i = 7; i = 7; i = 7; i = 7; i = 7; i = 7; i = 7; i = 7; i = 7; i = 7; i = 7; i = 7; i = 7; i = 7; i = 7; i = 7; i = 7; i = 7; i = 7; i = 7; i = 7; i = 7; i = 7; i = 7; }\n",
+        UnknownName,
+        1,
+        b"p.gp:1:166: j is no control variable of task main\n..\t\t\t\t\t\t\t\t\t\t\t\t\t\t\t\t\t\t\t\t\t\t\t\t\t\t\t\t\t\t\t\t\t\t\t\t\t\t\t\t\t\t\t\t\t\t\t\t\t\t\t\t\t\t\t\t\t\t\t\t\t\t\t\t\t\t\t\t\t\t\t\t\t\t\t i = j; i = 7; i = 7; i = 7; i = 7; i = 7; i = 7; i = 7; i = 7; i = 7; i = 7; i = 7; \n  \t\t\t\t\t\t\t\t\t\t\t\t\t\t\t\t\t\t\t\t\t\t\t\t\t\t\t\t\t\t\t\t\t\t\t\t\t\t\t\t\t\t\t\t\t\t\t\t\t\t\t\t\t\t\t\t\t\t\t\t\t\t\t\t\t\t\t\t\t\t\t\t\t\t\t     ^\ncheck 1: a name has to be declared as what its place needs (check 1 at line 1)\nhint: `var j;` before the first statement of the task declares it\n",
+    ),
     (
         b"lock a[1]; lock a[1];\ntask main() {\n}\n",
         DoubleName,

@@ -9,6 +9,16 @@ const OPEN: Kind = Kind::Mark(4);
 
 const CLOSE: Kind = Kind::Mark(5);
 
+const TASK: Kind = Kind::Word(7);
+
+/// A token of a program by its number, or the end of the program.
+#[derive(Clone, Copy)]
+pub struct Place<'a> {
+    pub program: &'a [u8],
+    pub tokens: &'a [Token],
+    pub number: usize,
+}
+
 // A `}` with the `{` that it closes, by their lines.
 #[derive(Clone, Copy)]
 struct Closing {
@@ -52,79 +62,10 @@ fn line_start(tokens: &[Token], number: usize) -> usize {
     number.saturating_sub(beside)
 }
 
-// Where the line of a token begins, in bytes from the line's first.
-fn indent(program: &[u8], tokens: &[Token], number: usize) -> usize {
-    match tokens.get(line_start(tokens, number)) {
-        Some(token) => column(program, token.from),
-        None => 0,
-    }
-}
-
 // A `}` and its `{`, by their numbers.
 fn closing_of(tokens: &[Token], open: usize, close: usize) -> Option<Closing> {
     let (opened, closed) = (tokens.get(open)?.line, tokens.get(close)?.line);
     Some(Closing { opened, closed })
-}
-
-// A `}` that begins its line in another column than the line of its `{` begins in.
-fn moved(program: &[u8], tokens: &[Token], open: usize, close: usize) -> Option<Closing> {
-    let closing = closing_of(tokens, open, close)?;
-    if closing.opened == closing.closed || line_start(tokens, close) != close {
-        return None;
-    }
-    if indent(program, tokens, open) == indent(program, tokens, close) {
-        None
-    } else {
-        Some(closing)
-    }
-}
-
-// The blocks of the tokens before one.
-fn blocks_before(
-    alloc: Global,
-    program: &[u8],
-    tokens: &[Token],
-    number: usize,
-) -> Result<Blocks, AllocError> {
-    let mut blocks = Blocks {
-        open: Vec::new(alloc),
-        moved: None,
-        last: None,
-    };
-    for (at, token) in tokens.iter().enumerate() {
-        if at >= number {
-            break;
-        }
-        if token.kind == OPEN {
-            blocks.open.push(at)?;
-        } else if token.kind == CLOSE {
-            if let Some(open) = blocks.open.pop() {
-                blocks.last = closing_of(tokens, open, at);
-                if blocks.moved.is_none() {
-                    blocks.moved = moved(program, tokens, open, at);
-                }
-            }
-        }
-    }
-    Ok(blocks)
-}
-
-// Appends the lines in which open blocks begin.
-fn push_open(text: &mut Vec<u8>, tokens: &[Token], open: &[usize]) -> Result<(), AllocError> {
-    text.extend_from_slice(if open.len() == 1 {
-        b"hint: the block is open that begins in line "
-    } else {
-        b"hint: the blocks are open that begin in the lines "
-    })?;
-    for (at, number) in open.iter().enumerate() {
-        if at > 0 {
-            text.extend_from_slice(b", ")?;
-        }
-        if let Some(token) = tokens.get(*number) {
-            push_number(text, u64::from(token.line))?;
-        }
-    }
-    text.extend_from_slice(b"\n")
 }
 
 // Appends which block a `}` closes.
@@ -150,137 +91,184 @@ fn push_early(text: &mut Vec<u8>, blocks: &Blocks) -> Result<(), AllocError> {
     }
 }
 
-// The first token of the statement whose block begins at this token.
-fn head_of(tokens: &[Token], open: usize) -> Option<&Token> {
-    let before = tokens.get(..open)?;
-    let length = before
-        .iter()
-        .rev()
-        .take_while(|token| !matches!(token.kind, Kind::Mark(4 | 5 | 7)))
-        .count();
-    tokens.get(open.saturating_sub(length))
-}
+impl<'a> Place<'a> {
+    /// The token, or none at the end of the program.
+    pub fn token(&self) -> Option<&'a Token> {
+        self.tokens.get(self.number)
+    }
 
-// Appends that a block may lack its `}`, unless it is that of a task.
-fn push_missing(
-    text: &mut Vec<u8>,
-    program: &[u8],
-    tokens: &[Token],
-    open: usize,
-) -> Result<(), AllocError> {
-    let Some(head) = head_of(tokens, open) else {
-        return Ok(());
-    };
-    if !matches!(head.kind, Kind::Word(9 | 10 | 11 | 18)) {
-        return Ok(());
+    // Where the line of a token begins, in bytes from the line's first.
+    fn indent(&self, number: usize) -> usize {
+        match self.tokens.get(line_start(self.tokens, number)) {
+            Some(token) => column(self.program, token.from),
+            None => 0,
+        }
     }
-    push_words(
-        text,
-        b"hint: a `}` may be missing: the block of the `",
-        bytes_of(program, head),
-        b"` in line ",
-    )?;
-    push_between(text, b"", u64::from(head.line), b" is open\n")
-}
 
-/// The hints where a text ends in a block, a task begins in one, or a `}` stands where no block is open: which blocks
-/// are open, and the first `}` that stands in another column than the line of its `{`.
-pub fn block_hints(
-    alloc: Global,
-    program: &[u8],
-    tokens: &[Token],
-    number: usize,
-) -> Result<Vec<u8>, AllocError> {
-    let mut text = Vec::new(alloc);
-    let closes = match tokens.get(number) {
-        Some(token) => token.kind == CLOSE,
-        None => false,
-    };
-    if !closes && !ends_block(tokens, number) {
-        return Ok(text);
+    // Whether the token is the first of its line.
+    fn begins_line(&self) -> bool {
+        line_start(self.tokens, self.number) == self.number
     }
-    let blocks = blocks_before(alloc, program, tokens, number)?;
-    if closes && !blocks.open.is_empty() {
-        return Ok(text);
-    }
-    if !blocks.open.is_empty() {
-        push_open(&mut text, tokens, &blocks.open)?;
-    } else if closes {
-        text.extend_from_slice(b"hint: no block is open here\n")?;
-    }
-    if let Some(closing) = blocks.moved {
-        push_closing(&mut text, closing)?;
-    }
-    Ok(text)
-}
 
-/// The hint where a control statement stands in an arm of a `when`, and no deeper than the line that begins the arm: this
-/// block may lack its `}`.
-pub fn arm_hints(
-    alloc: Global,
-    program: &[u8],
-    tokens: &[Token],
-    number: usize,
-) -> Result<Vec<u8>, AllocError> {
-    let mut text = Vec::new(alloc);
-    let mut blocks = blocks_before(alloc, program, tokens, number)?;
-    let Some(open) = blocks.open.pop() else {
-        return Ok(text);
-    };
-    if line_start(tokens, number) == number
-        && indent(program, tokens, number) <= indent(program, tokens, open)
-    {
-        push_missing(&mut text, program, tokens, open)?;
+    fn closes(&self) -> bool {
+        matches!(self.token(), Some(token) if token.kind == CLOSE)
     }
-    Ok(text)
-}
 
-/// The hint on an `else` that can't stand: which block is open where no `}` stands before it, and else which block a `}`
-/// closes: the first in another column than the line of its `{`, or the last.
-pub fn else_hints(
-    alloc: Global,
-    program: &[u8],
-    tokens: &[Token],
-    number: usize,
-) -> Result<Vec<u8>, AllocError> {
-    let mut text = Vec::new(alloc);
-    let mut blocks = blocks_before(alloc, program, tokens, number)?;
-    if is_behind_block(tokens, number) {
-        push_early(&mut text, &blocks)?;
-    } else if let Some(open) = blocks.open.pop() {
-        push_missing(&mut text, program, tokens, open)?;
+    // Whether all blocks have to be closed here: the text ends, or a task begins.
+    fn ends_blocks(&self) -> bool {
+        match self.token() {
+            Some(token) => token.kind == TASK,
+            None => true,
+        }
     }
-    Ok(text)
-}
 
-/// The hint on a statement behind the end of a task, where it begins a line and is indented: which block a `}` closes, as
-/// for an `else`.
-pub fn closing_hints(
-    alloc: Global,
-    program: &[u8],
-    tokens: &[Token],
-    number: usize,
-) -> Result<Vec<u8>, AllocError> {
-    let mut text = Vec::new(alloc);
-    if line_start(tokens, number) == number && indent(program, tokens, number) > 0 {
-        let blocks = blocks_before(alloc, program, tokens, number)?;
-        push_early(&mut text, &blocks)?;
+    // Whether the token before this one ends a block.
+    fn is_after_block(&self) -> bool {
+        let before = self.tokens.get(self.number.saturating_sub(1));
+        matches!(before, Some(token) if token.kind == CLOSE)
     }
-    Ok(text)
-}
 
-// Whether at this token all blocks have to be closed: the text ends, or a task begins.
-fn ends_block(tokens: &[Token], number: usize) -> bool {
-    match tokens.get(number) {
-        Some(token) => token.kind == Kind::Word(7),
-        None => true,
+    // A `}` that begins its line in another column than the line of its `{` begins in.
+    fn moved(&self, open: usize, close: usize) -> Option<Closing> {
+        let closing = closing_of(self.tokens, open, close)?;
+        if closing.opened == closing.closed || line_start(self.tokens, close) != close {
+            return None;
+        }
+        if self.indent(open) == self.indent(close) {
+            None
+        } else {
+            Some(closing)
+        }
     }
-}
 
-// Whether the token before this one ends a block.
-fn is_behind_block(tokens: &[Token], number: usize) -> bool {
-    match tokens.get(number.saturating_sub(1)) {
-        Some(token) => token.kind == CLOSE,
-        None => false,
+    // The blocks of the tokens before this one.
+    fn blocks(&self, alloc: Global) -> Result<Blocks, AllocError> {
+        let mut blocks = Blocks {
+            open: Vec::new(alloc),
+            moved: None,
+            last: None,
+        };
+        for (at, token) in self.tokens.iter().enumerate() {
+            if at >= self.number {
+                break;
+            }
+            if token.kind == OPEN {
+                blocks.open.push(at)?;
+            } else if token.kind == CLOSE {
+                if let Some(open) = blocks.open.pop() {
+                    blocks.last = closing_of(self.tokens, open, at);
+                    if blocks.moved.is_none() {
+                        blocks.moved = self.moved(open, at);
+                    }
+                }
+            }
+        }
+        Ok(blocks)
+    }
+
+    // Appends the lines in which open blocks begin.
+    fn push_open(&self, text: &mut Vec<u8>, open: &[usize]) -> Result<(), AllocError> {
+        text.extend_from_slice(if open.len() == 1 {
+            b"hint: the block is open that begins in line "
+        } else {
+            b"hint: the blocks are open that begin in the lines "
+        })?;
+        for (at, number) in open.iter().enumerate() {
+            if at > 0 {
+                text.extend_from_slice(b", ")?;
+            }
+            if let Some(token) = self.tokens.get(*number) {
+                push_number(text, u64::from(token.line))?;
+            }
+        }
+        text.extend_from_slice(b"\n")
+    }
+
+    // The first token of the statement whose block begins at this token.
+    fn head_of(&self, open: usize) -> Option<&'a Token> {
+        let before = self.tokens.get(..open)?;
+        let length = before
+            .iter()
+            .rev()
+            .take_while(|token| !matches!(token.kind, Kind::Mark(4 | 5 | 7)))
+            .count();
+        self.tokens.get(open.saturating_sub(length))
+    }
+
+    // Appends that a block may lack its `}`, unless it is that of a task.
+    fn push_missing(&self, text: &mut Vec<u8>, open: usize) -> Result<(), AllocError> {
+        let Some(head) = self.head_of(open) else {
+            return Ok(());
+        };
+        if !matches!(head.kind, Kind::Word(9 | 10 | 11 | 18)) {
+            return Ok(());
+        }
+        push_words(
+            text,
+            b"hint: a `}` may be missing: the block of the `",
+            bytes_of(self.program, head),
+            b"` in line ",
+        )?;
+        push_between(text, b"", u64::from(head.line), b" is open\n")
+    }
+
+    /// The hints where a text ends in a block, a task begins in one, or a `}` stands where no block is open: which blocks
+    /// are open, and the first `}` that stands in another column than the line of its `{`.
+    pub fn block_hints(&self, alloc: Global) -> Result<Vec<u8>, AllocError> {
+        let mut text = Vec::new(alloc);
+        let closes = self.closes();
+        if !closes && !self.ends_blocks() {
+            return Ok(text);
+        }
+        let blocks = self.blocks(alloc)?;
+        if closes && !blocks.open.is_empty() {
+            return Ok(text);
+        }
+        if !blocks.open.is_empty() {
+            self.push_open(&mut text, &blocks.open)?;
+        } else if closes {
+            text.extend_from_slice(b"hint: no block is open here\n")?;
+        }
+        if let Some(closing) = blocks.moved {
+            push_closing(&mut text, closing)?;
+        }
+        Ok(text)
+    }
+
+    /// The hint where a control statement stands in an arm of a `when`, and no deeper than the line that begins the arm:
+    /// this block may lack its `}`.
+    pub fn arm_hints(&self, alloc: Global) -> Result<Vec<u8>, AllocError> {
+        let mut text = Vec::new(alloc);
+        let mut blocks = self.blocks(alloc)?;
+        let Some(open) = blocks.open.pop() else {
+            return Ok(text);
+        };
+        if self.begins_line() && self.indent(self.number) <= self.indent(open) {
+            self.push_missing(&mut text, open)?;
+        }
+        Ok(text)
+    }
+
+    /// The hint on an `else` that can't stand: which block is open where no `}` stands before it, and else which block a
+    /// `}` closes: the first in another column than the line of its `{`, or the last.
+    pub fn else_hints(&self, alloc: Global) -> Result<Vec<u8>, AllocError> {
+        let mut text = Vec::new(alloc);
+        let mut blocks = self.blocks(alloc)?;
+        if self.is_after_block() {
+            push_early(&mut text, &blocks)?;
+        } else if let Some(open) = blocks.open.pop() {
+            self.push_missing(&mut text, open)?;
+        }
+        Ok(text)
+    }
+
+    /// The hint on a statement after the end of a task, where it begins a line and is indented: which block a `}` closes,
+    /// as for an `else`.
+    pub fn closing_hints(&self, alloc: Global) -> Result<Vec<u8>, AllocError> {
+        let mut text = Vec::new(alloc);
+        if self.begins_line() && self.indent(self.number) > 0 {
+            push_early(&mut text, &self.blocks(alloc)?)?;
+        }
+        Ok(text)
     }
 }

@@ -112,7 +112,7 @@ fn ends_line(program: &[u8], at: usize) -> bool {
     }
 }
 
-// Whether a `:` behind these bytes of its line begins a block in other languages.
+// Whether a `:` after these bytes of its line begins a block in other languages.
 fn begins_block(line: &[u8]) -> bool {
     let words: [&[u8]; 4] = [b"if", b"else", b"while", b"when"];
     let word = first_word(line);

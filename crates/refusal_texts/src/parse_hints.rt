@@ -1,6 +1,6 @@
 // What to write in place of a token that can't stand where it does.
 
-use crate::blocks::{arm_hints, block_hints, closing_hints, else_hints};
+use crate::blocks::Place;
 use crate::foreign::{BLOCK, beginning, function, giving, head, operator, without_parentheses};
 use crate::hints::{COMMENT, hint_line};
 use crate::kinds::has;
@@ -55,6 +55,10 @@ const IF: Kind = Kind::Word(10);
 
 const ELSE: Kind = Kind::Word(11);
 
+const FORK: Kind = Kind::Word(12);
+
+const INTO: Kind = Kind::Word(13);
+
 const JOIN: Kind = Kind::Word(14);
 
 const READ: Kind = Kind::Word(15);
@@ -92,12 +96,10 @@ enum Hint<'a> {
     Unknown(&'a [u8]),
 }
 
-// A token that can't stand where it does, by its number, and what could stand there.
+// A token that can't stand where it does, and what could stand there.
 #[derive(Clone, Copy)]
 struct Spot<'a> {
-    program: &'a [u8],
-    tokens: &'a [Token],
-    number: usize,
+    place: Place<'a>,
     kinds: &'a [Kind],
 }
 
@@ -116,11 +118,11 @@ fn is_reserved(kind: Option<Kind>) -> bool {
 impl<'a> Spot<'a> {
     // The token that stands so many before this one.
     fn back(&self, count: usize) -> Option<&'a Token> {
-        self.tokens.get(self.number.checked_sub(count)?)
+        self.place.tokens.get(self.place.number.checked_sub(count)?)
     }
 
     fn after(&self) -> Option<&'a Token> {
-        self.tokens.get(self.number.saturating_add(1))
+        self.place.tokens.get(self.place.number.saturating_add(1))
     }
 
     fn kind(&self) -> Option<Kind> {
@@ -137,7 +139,7 @@ impl<'a> Spot<'a> {
 
     fn bytes(&self, token: Option<&'a Token>) -> &'a [u8] {
         match token {
-            Some(token) => bytes_of(self.program, token),
+            Some(token) => bytes_of(self.place.program, token),
             None => &[],
         }
     }
@@ -169,7 +171,7 @@ impl<'a> Spot<'a> {
         }
     }
 
-    // Whether this token stands right behind the one before it.
+    // Whether this token stands right after the one before it.
     fn is_joined(&self) -> bool {
         match (self.back(1), self.back(0)) {
             (Some(before), Some(token)) => before.to == token.from,
@@ -177,7 +179,7 @@ impl<'a> Spot<'a> {
         }
     }
 
-    // Whether the next token stands right behind this one.
+    // Whether the next token stands right after this one.
     fn is_joined_after(&self) -> bool {
         match (self.back(0), self.after()) {
             (Some(token), Some(after)) => token.to == after.from,
@@ -192,7 +194,7 @@ impl<'a> Spot<'a> {
 
     // The first token of the statement before this one, which has no block.
     fn first(&self) -> Option<&'a Token> {
-        let before = self.tokens.get(..self.number)?;
+        let before = self.place.tokens.get(..self.place.number)?;
         let length = before
             .iter()
             .rev()
@@ -206,11 +208,16 @@ impl<'a> Spot<'a> {
         matches!(self.first(), Some(token) if token.kind == PRINT)
     }
 
+    // Whether this token stands in a `fork`.
+    fn is_in_fork(&self) -> bool {
+        matches!(self.first(), Some(token) if token.kind == FORK)
+    }
+
     // Whether the program has a feed of this name.
     fn is_feed(&self, name: &[u8]) -> bool {
         let mut head = false;
-        for token in self.tokens {
-            if head && *bytes_of(self.program, token) == *name {
+        for token in self.place.tokens {
+            if head && *bytes_of(self.place.program, token) == *name {
                 return true;
             }
             head = token.kind == FEED;
@@ -219,8 +226,8 @@ impl<'a> Spot<'a> {
     }
 
     // Whether the program has a task before this token.
-    fn is_behind_task(&self) -> bool {
-        let Some(before) = self.tokens.get(..self.number) else {
+    fn is_after_task(&self) -> bool {
+        let Some(before) = self.place.tokens.get(..self.place.number) else {
             return false;
         };
         for token in before {
@@ -238,12 +245,15 @@ impl<'a> Spot<'a> {
             && (self.kind_before() == Some(SLASH) || star && self.is_joined_after())
     }
 
-    // Two minuses in a row, with a space behind them.
+    // Two minuses in a row, with a space after them.
     fn is_dashed(&self) -> bool {
         let is_double = self.kind() == Some(MINUS)
             && self.kind_after() == Some(MINUS)
             && self.is_joined_after();
-        match (self.after(), self.tokens.get(self.number.saturating_add(2))) {
+        match (
+            self.after(),
+            self.place.tokens.get(self.place.number.saturating_add(2)),
+        ) {
             (Some(after), Some(third)) => is_double && after.to != third.from,
             _ => is_double,
         }
@@ -352,7 +362,7 @@ impl<'a> Spot<'a> {
         } else if is_comparison(self.kind()) {
             self.comparison_hint(kind)
         } else if kind == SEMICOLON && self.kind_before() == Some(CLOSE_BLOCK) {
-            Some(b"no `;` stands behind a block")
+            Some(b"no `;` stands after a block")
         } else if kind == COMMA {
             self.comma_hint()
         } else {
@@ -360,7 +370,7 @@ impl<'a> Spot<'a> {
         }
     }
 
-    // A mark of arithmetic behind the same one.
+    // A mark of arithmetic after the same one.
     fn doubled_hint(&self, kind: Kind) -> Option<&'static [u8]> {
         match kind {
             Kind::Mark(15) => Some(INCREASED),
@@ -490,7 +500,7 @@ impl<'a> Spot<'a> {
         } else if self.wants(CLOSE_BRACKET)
             && (is_arithmetic(self.kind()) || kind == OPEN_BRACKET || kind == OPEN_PAREN)
         {
-            if self.is_behind_task() {
+            if self.is_after_task() {
                 Some(INDEX)
             } else {
                 Some(SIZE)
@@ -504,7 +514,9 @@ impl<'a> Spot<'a> {
     fn name_hint(&self) -> Option<&'static [u8]> {
         let kind = self.kind()?;
         if kind == Kind::Name && self.wants(Kind::Reg) {
-            Some(b"data stands in a variable with a `$`: `into $x`")
+            self.given_hint()
+        } else if kind == Kind::Reg && self.kind_before() == Some(INTO) && self.is_in_fork() {
+            Some(b"a fork gives the number of its thread: `fork t() into h; join h into $x;`")
         } else if kind == Kind::Reg && self.kind_before() == Some(READ) {
             Some(b"write `read r[i] into $x;`")
         } else if kind == Kind::Reg && self.wants(Kind::Name) {
@@ -519,11 +531,39 @@ impl<'a> Spot<'a> {
                 b"numbers alone are printed: give each kind of line a number of its own, as its first",
             )
         } else if kind == Kind::Quoted {
-            Some(b"a text in quotes is the name of a file alone, behind `from`")
+            Some(b"a text in quotes is the name of a file alone, after `from`")
         } else if self.wants(Kind::Quoted) {
             Some(b"the name of a file stands in double quotes")
         } else {
             None
+        }
+    }
+
+    // A control variable for what is given back or read.
+    fn given_hint(&self) -> Option<&'static [u8]> {
+        match self.first()?.kind {
+            Kind::Word(14) => Some(
+                b"what a thread gives back is data: `join h into $x;`, and `settle $x into c;` makes it a control value",
+            ),
+            Kind::Word(15) => Some(
+                b"what is read is data: `read r[i] into $x;`, and `settle $x into c;` makes it a control value",
+            ),
+            _ => Some(b"data stands in a variable with a `$`: `into $x`"),
+        }
+    }
+
+    // An `into` that is missing.
+    fn into_hint(&self) -> Option<&'static [u8]> {
+        let is_variable = matches!(self.kind(), Some(Kind::Name | Kind::Reg)) && self.is_beside();
+        if !self.wants(INTO) && !(self.has(INTO) && is_variable) {
+            return None;
+        }
+        match self.first()?.kind {
+            Kind::Word(12) => Some(b"write `fork t() into h;`"),
+            Kind::Word(14) => Some(b"write `join h into $x;`"),
+            Kind::Word(15) => Some(b"write `read r[i] into $x;`"),
+            Kind::Word(24) => Some(b"write `settle $x into c;`"),
+            _ => None,
         }
     }
 
@@ -602,7 +642,7 @@ impl<'a> Spot<'a> {
         }
     }
 
-    // What is missing behind a name.
+    // What is missing after a name.
     fn follow_hint(&self) -> Option<Hint<'a>> {
         let before = self.kind_before()?;
         if self.wants(OPEN_BRACKET) {
@@ -640,6 +680,9 @@ impl<'a> Spot<'a> {
         if let Some(hint) = self.name_hint() {
             return Some(hint);
         }
+        if let Some(hint) = self.into_hint() {
+            return Some(hint);
+        }
         self.head_hint()
     }
 
@@ -674,11 +717,11 @@ impl<'a> Spot<'a> {
             return Ok(Vec::new(alloc));
         };
         if kind == ELSE && self.has(READ) {
-            else_hints(alloc, self.program, self.tokens, self.number)
+            self.place.else_hints(alloc)
         } else if self.is_in_arm() && (kind == Kind::Name || is_control(kind)) {
-            arm_hints(alloc, self.program, self.tokens, self.number)
+            self.place.arm_hints(alloc)
         } else if self.wants(TASK) && self.begins_statement() {
-            closing_hints(alloc, self.program, self.tokens, self.number)
+            self.place.closing_hints(alloc)
         } else {
             Ok(Vec::new(alloc))
         }
@@ -744,14 +787,14 @@ pub fn parse_hints(
     kinds: &[Kind],
 ) -> Result<Vec<u8>, AllocError> {
     let number = token_number(tokens, at);
-    let spot = Spot {
+    let place = Place {
         program,
         tokens,
         number,
-        kinds,
     };
+    let spot = Spot { place, kinds };
     let Some(hint) = spot.hint() else {
-        return block_hints(alloc, program, tokens, number);
+        return place.block_hints(alloc);
     };
     let mut text = spot.block_lines(alloc)?;
     push_told(&mut text, hint)?;

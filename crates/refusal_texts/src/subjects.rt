@@ -15,7 +15,7 @@ enum Space {
     Array,
 }
 
-// A name in a space. `again` asks for one that stands behind another of its space and spelling.
+// A name in a space. `again` asks for one that stands after another of its space and spelling.
 #[derive(Clone, Copy)]
 struct Wanted<'a> {
     space: Space,
@@ -65,11 +65,11 @@ impl Around {
 
     // Whether a statement begins with this token: `}`, `else` and `var` begin none.
     fn begins_statement(&self, kind: Kind) -> bool {
-        let is_behind = match self.before {
+        let is_after = match self.before {
             Some(before) => is_end(before),
             None => false,
         };
-        self.blocks > 0 && is_behind && !matches!(kind, Kind::Mark(5) | Kind::Word(11 | 8))
+        self.blocks > 0 && is_after && !matches!(kind, Kind::Mark(5) | Kind::Word(11 | 8))
     }
 
     // Whether this token is a name in the space. `lock`, `barrier`, `record`, `feed` and `task` declare, and `by` names an array.

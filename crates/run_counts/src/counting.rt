@@ -1,13 +1,13 @@
 // What is noted of a run.
 
 use crate::data::reckon_data;
-use crate::divisions::{divides_by_zero, dividing_lines};
+use crate::operators::{Sought, divides_by_zero, lines_with};
 use crate::values::{Kept, Values};
 use exact_arithmetic::reckon;
 use gp_base::{Limits, Name};
-use one_thread::Reckon;
+use one_thread::{Plainly, Reckon};
 use std::alloc::{AllocError, Global};
-use task_ast::{Env, Expr, Program, Stmt, What};
+use task_ast::{Env, Expr, Program, Stmt, What, eval_d};
 
 /// How often the arithmetic of a line went wrong in one way, at which position first, and the control variables there.
 #[derive(Clone, Copy)]
@@ -25,11 +25,14 @@ pub struct Counting {
     pub left: Vec<Slip>,
     pub divided: Vec<Slip>,
     pub values: Values,
+    calculating: Vec<bool>,
     dividing: Vec<bool>,
     lines: Vec<u32>,
     begun: u32,
     line: u32,
     control: u32,
+    // Whether an expression in the line may slip.
+    calculates: bool,
 }
 
 const NO_SLIP: Slip = Slip {
@@ -76,6 +79,13 @@ fn last_line(block: &[Stmt]) -> u32 {
     last
 }
 
+fn is_marked(lines: &[bool], line: u32) -> bool {
+    match lines.get(line as usize) {
+        Some(marked) => *marked,
+        None => false,
+    }
+}
+
 impl Counting {
     /// Nothing is noted yet of a run of a program under these limits. The error is that memory is out.
     pub fn new(alloc: Global, program: &Program, limits: Limits) -> Result<Counting, AllocError> {
@@ -88,11 +98,13 @@ impl Counting {
             left: Vec::from_elem(alloc, NO_SLIP, lines)?,
             divided: Vec::from_elem(alloc, NO_SLIP, lines)?,
             values: Values::new(alloc)?,
-            dividing: dividing_lines(alloc, program, lines)?,
+            calculating: lines_with(alloc, program, Sought::Arithmetic, lines)?,
+            dividing: lines_with(alloc, program, Sought::Divisions, lines)?,
             lines: Vec::from_elem(alloc, 0, limits.subthreads as usize)?,
             begun: 0,
             line: 0,
             control: 0,
+            calculates: false,
         })
     }
 
@@ -109,10 +121,7 @@ impl Counting {
 
     // Whether a slip in this line may be a division by 0.
     fn may_divide(&self) -> bool {
-        match self.dividing.get(self.line as usize) {
-            Some(dividing) => *dividing,
-            None => false,
-        }
+        is_marked(&self.dividing, self.line)
     }
 
     // A slip of an expression in this line.
@@ -142,10 +151,14 @@ impl Reckon for Counting {
 
     fn at(&mut self, line: u32) {
         self.line = line;
+        self.calculates = is_marked(&self.calculating, line);
     }
 
     fn of_control(&mut self, e: &Expr, env: &Env) -> Option<i64> {
         self.control = self.line;
+        if !self.calculates {
+            return eval_d(e, env);
+        }
         let mut exact = true;
         let value = reckon(e, env, &mut exact);
         if !exact {
@@ -155,6 +168,9 @@ impl Reckon for Counting {
     }
 
     fn of_data(&mut self, e: &Expr, names: &[Name], env: &Env, registers: &[i64]) -> Option<i64> {
+        if !self.calculates {
+            return Plainly.of_data(e, names, env, registers);
+        }
         let mut exact = true;
         let value = reckon_data(e, names, env, registers, &mut exact);
         if !exact {

@@ -8,7 +8,7 @@ ghost use Rattle.run_counts.specs.Data.{with_data};
 use exact_arithmetic::{negated, operated, reckon};
 use gp_base::Name;
 use one_thread::register_value;
-use task_ast::{Env, Expr, Op};
+use task_ast::{Env, Expr, Op, eval_d};
 
 /// The value of an expression that may name data variables. The flag falls where an operation on the way is not exact;
 /// cells of feeds are read by control values alone.
@@ -38,10 +38,10 @@ pub fn reckon_data(
             let first = reckon_data(first, names, env, registers, exact)?;
             chain_data(links.as_slice(), first, names, env, registers, exact)
         }
-        Expr::Num(_) => reckon(e, env, exact),
-        Expr::Ctl(_) => reckon(e, env, exact),
-        Expr::Me => reckon(e, env, exact),
-        Expr::Rows(_) => reckon(e, env, exact),
+        Expr::Num(_) => eval_d(e, env),
+        Expr::Ctl(_) => eval_d(e, env),
+        Expr::Me => eval_d(e, env),
+        Expr::Rows(_) => eval_d(e, env),
         Expr::Cell(_, _, _) => reckon(e, env, exact),
     }
 }

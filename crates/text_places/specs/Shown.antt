@@ -1,7 +1,7 @@
 -- A line as it is shown, and the mark under one of its bytes.
-use Rattle.std.specs.Prelude.{ℕ, ◌==◌, ◌||◌, List, [], ◌++◌, length, take, map, codes, nat_lt, if◌then◌else◌}
+use Rattle.std.specs.Prelude.{ℕ, ◌-◌, ◌==◌, ◌||◌, List, ◌++◌, length, take, drop, map, codes, nat_lt, if◌then◌else◌}
 use Rattle.std.specs.Str.Lines.{strip_carriage_return}
-use Rattle.text_places.specs.declared.lines.TheConstants.{LONGEST_SHOWN}
+use Rattle.text_places.specs.declared.lines.TheConstants.{LONGEST_SHOWN, SHOWN_BEFORE}
 use Rattle.text_places.specs.Places.{line_before, line_at}
 
 -- a byte below 32 but a tab, and 127, are shown as `?`
@@ -20,8 +20,21 @@ blank_byte b = if b == 9 then 9 else 32
 abbrev pub mark : List ℕ → List ℕ
 mark before = map blank_byte before ++ codes "^"
 
--- the line of a byte with the mark under it, where the byte is among those that are shown
+-- a line with a mark after so many bytes of it
+abbrev pub marked_line : (line before : List ℕ) → List ℕ
+marked_line line before = shown line ++ codes "\n" ++ mark before ++ codes "\n"
+
+-- how many bytes at the front of a line are left out
+abbrev pub left_out : List ℕ → ℕ
+left_out before = length before - SHOWN_BEFORE
+
+-- the line without these bytes, after two points, and the mark under its byte
+abbrev pub marked_part : (line before : List ℕ) → List ℕ
+marked_part line before =
+    codes ".." ++ shown (drop (left_out before) line) ++ codes "\n  " ++ mark (drop (left_out before) before) ++ codes "\n"
+
+-- the line of a byte with the mark under it: the line's front, or a part around the byte where it stands after those that are shown
 abbrev pub marked : List ℕ → ℕ → List ℕ
 marked text at =
-    if nat_lt (length (line_before text at)) LONGEST_SHOWN
-    then shown (line_at text at) ++ codes "\n" ++ mark (line_before text at) ++ codes "\n" else []
+    if nat_lt (length (line_before text at)) LONGEST_SHOWN then marked_line (line_at text at) (line_before text at)
+    else marked_part (line_at text at) (line_before text at)

@@ -50,6 +50,7 @@ thread 2 line 15 waits for lock x[1] of thread 1
 thread 1 holds x[1], taken in line 5
 thread 1 holds y[0], taken in line 6
 thread 2 holds y[1], taken in line 14
+hint: thread 1 takes x[1] before y[1], thread 2 takes y[1] before x[1]: threads that all take their locks in one order do not wait in a circle
 8 subthreads, 3 threads, 3 locks taken; at most 2 subthreads side by side
 arithmetic: exact in every line that ran
 ";
@@ -78,10 +79,60 @@ thread 3 line 6 waits for lock l[0] of thread 1
 thread 1 holds l[0], taken in line 4
 thread 2 holds l[1], taken in line 4
 thread 3 holds l[2], taken in line 4
+hint: thread 1 takes l[0] before l[1], thread 2 takes l[1] before l[2], thread 3 takes l[2] before l[0]: threads that all take their locks in one order do not wait in a circle
 thread 1: i = 0, j = 1
 thread 2: i = 1, j = 2
 thread 3: i = 2, j = 0
 13 subthreads, 4 threads, 3 locks taken; at most 3 subthreads side by side
+arithmetic: exact in every line that ran
+";
+
+const NINE: &str = "lock l[9];
+barrier all(9);
+task p(i) {
+  var j;
+  j = (i + 1) % 9;
+  lock l[i];
+  barrier all;
+  lock l[j]; unlock l[j]; unlock l[i];
+}
+task main() {
+  var k;
+  while k < 9 { fork p(k); k = k + 1; }
+}
+";
+
+// Of the nine threads of the circle it is told of eight in which order they take their locks.
+const NINE_TOLD: &str = "stuck deadlock thread 1 line 8
+thread 1 line 8 waits for lock l[1] of thread 2
+thread 2 line 8 waits for lock l[2] of thread 3
+thread 3 line 8 waits for lock l[3] of thread 4
+thread 4 line 8 waits for lock l[4] of thread 5
+thread 5 line 8 waits for lock l[5] of thread 6
+thread 6 line 8 waits for lock l[6] of thread 7
+thread 7 line 8 waits for lock l[7] of thread 8
+thread 8 line 8 waits for lock l[8] of thread 9
+thread 9 line 8 waits for lock l[0] of thread 1
+thread 1 holds l[0], taken in line 6
+thread 2 holds l[1], taken in line 6
+thread 3 holds l[2], taken in line 6
+thread 4 holds l[3], taken in line 6
+thread 5 holds l[4], taken in line 6
+thread 6 holds l[5], taken in line 6
+thread 7 holds l[6], taken in line 6
+thread 8 holds l[7], taken in line 6
+thread 9 holds l[8], taken in line 6
+hint: thread 1 takes l[0] before l[1], thread 2 takes l[1] before l[2], thread 3 takes l[2] before l[3], thread 4 takes l[3] before l[4], thread 5 takes l[4] before l[5], thread 6 takes l[5] before l[6], thread 7 takes l[6] before l[7], thread 8 takes l[7] before l[8], and so on: threads that all take their locks in one order do not wait in a circle
+thread 1: i = 0, j = 1
+thread 2: i = 1, j = 2
+thread 3: i = 2, j = 3
+thread 4: i = 3, j = 4
+thread 5: i = 4, j = 5
+thread 6: i = 5, j = 6
+thread 7: i = 6, j = 7
+thread 8: i = 7, j = 8
+thread 9: i = 8, j = 0
+37 subthreads, 10 threads, 9 locks taken; at most 4 subthreads side by side
 arithmetic: exact in every line that ran
 ";
 
@@ -195,13 +246,14 @@ thread -1 is joined; there is 1 thread, 0
 arithmetic: exact in every line that ran
 ";
 
-const STUCK: [Row; 11] = [
+const STUCK: [Row; 12] = [
     ("explain p.gp", SOONER, "", 5, SOONER_TOLD, ""),
     ("explain p.gp", ENDED, "", 5, ENDED_TOLD, ""),
     ("explain p.gp", AGAIN, "", 5, AGAIN_TOLD, ""),
     ("explain p.gp", ALONE, "", 5, ALONE_TOLD, ""),
     ("explain p.gp", DEADLOCK, "", 5, TWO_TOLD, ""),
     ("explain p.gp", THREE, "", 5, THREE_TOLD, ""),
+    ("explain p.gp", NINE, "", 5, NINE_TOLD, ""),
     ("explain p.gp", BARRIER, "", 5, BARRIER_TOLD, ""),
     ("explain p.gp", ITSELF, "", 5, ITSELF_TOLD, ""),
     ("explain p.gp", LONE, "", 5, LONE_TOLD, ""),
@@ -220,6 +272,8 @@ task main() {
 
 const LOCK_TOLD: &str = "stuck index thread 0 line 5
 bank[i] with i = 2; bank has 2 cells, 0 to 1
+  lock bank[i];
+       ^
 thread 0: i = 2
 1 subthread, 1 thread, 0 locks taken; at most 1 subthread side by side
 arithmetic: exact in every line that ran
@@ -234,6 +288,8 @@ task main() {
 
 const LITERAL_TOLD: &str = "stuck index thread 0 line 3
 bank[5]; bank has 2 cells, 0 to 1
+  lock bank[5];
+       ^
 1 subthread, 1 thread, 0 locks taken; at most 1 subthread side by side
 arithmetic: exact in every line that ran
 ";
@@ -250,6 +306,8 @@ task main() {
 
 const BELOW_TOLD: &str = "stuck index thread 1 line 3
 bank[i] with i = -1; bank has 2 cells, 0 to 1
+  lock bank[i];
+       ^
 thread 1: i = -1, k = 3
 3 subthreads, 2 threads, 0 locks taken; at most 1 subthread side by side
 arithmetic: exact in every line that ran
@@ -267,6 +325,8 @@ task main() {
 
 const PAST_TOLD: &str = "stuck index thread 0 line 5
 moves[2, 1]; moves has 2 rows, 0 to 1, of 2 fields, 0 to 1
+    print moves[i, 1];
+          ^
 thread 0: i = 2
 1 subthread, 1 thread, 0 locks taken; at most 1 subthread side by side
 arithmetic: exact in every line that ran
@@ -281,6 +341,8 @@ task main() {
 
 const FIELD_TOLD: &str = "stuck index thread 0 line 4
 moves[0, 2]; moves has 1 row, 0 to 0, of 2 fields, 0 to 1
+  x = 3 + 2 * moves[0, 2];
+              ^
 thread 0: x = 0
 1 subthread, 1 thread, 0 locks taken; at most 1 subthread side by side
 arithmetic: exact in every line that ran
@@ -295,6 +357,8 @@ task main() {
 
 const NO_ROW_TOLD: &str = "stuck index thread 0 line 4
 moves[0, 0]; moves has 0 rows, of 2 fields, 0 to 1
+  fork t(moves[0, 0]);
+         ^
 1 subthread, 1 thread, 0 locks taken; at most 1 subthread side by side
 arithmetic: exact in every line that ran
 ";
@@ -312,11 +376,54 @@ task main() {
 
 const ARM_TOLD: &str = "stuck index thread 0 line 4
 moves[4, 1]; moves has 1 row, 0 to 0, of 2 fields, 0 to 1
+  when $a {
+  ^
 1 subthread, 1 thread, 0 locks taken; at most 1 subthread side by side
 arithmetic: exact in every line that ran
 ";
 
-const INDICES: [Row; 7] = [
+const HANDLE: &str = "lock bank[2];
+task t() { }
+task main() {
+  var h;
+  fork t() into h;
+  if h {
+    fork t() into h;
+  }
+  join h;
+  lock bank[h];
+  unlock bank[h];
+}
+";
+
+const HANDLE_TOLD: &str = "stuck index thread 0 line 10
+bank[h] with h = 2; bank has 2 cells, 0 to 1
+  lock bank[h];
+       ^
+hint: h is the number of a thread, by the fork in line 5; what the thread gives back is an index after `join h into $x; settle $x into c;`
+thread 0: h = 2
+6 subthreads, 3 threads, 0 locks taken; at most 2 subthreads side by side
+arithmetic: exact in every line that ran
+";
+
+// Two cells of one array stand in the line, so that it is marked at its beginning.
+const TWO_CELLS: &str = "feed moves[2] from \"moves.csv\";
+task main() {
+  print moves[0, 1], moves[7, 1];
+}
+";
+
+const TWO_CELLS_TOLD: &str = "stuck index thread 0 line 3
+moves[7, 1]; moves has 1 row, 0 to 0, of 2 fields, 0 to 1
+  print moves[0, 1], moves[7, 1];
+  ^
+1 subthread, 1 thread, 0 locks taken; at most 1 subthread side by side
+arithmetic: exact in every line that ran
+";
+
+const INDICES: [Row; 9] = [
+    ("explain p.gp", HANDLE, "", 5, HANDLE_TOLD, ""),
+    ("explain p.gp", TWO_CELLS, "1,2\n", 5, TWO_CELLS_TOLD, ""),
     ("explain p.gp", LOCK, "", 5, LOCK_TOLD, ""),
     ("explain p.gp", LITERAL, "", 5, LITERAL_TOLD, ""),
     ("explain p.gp", BELOW, "", 5, BELOW_TOLD, ""),
@@ -331,7 +438,7 @@ const LOOP: &str = "task main() { while 1 { } }";
 const LOOP_TOLD: &str = "spent 0
 thread 0 took 10 loop turns in one subthread, last at the loop in line 1
 hint: the condition of this loop may stay true:
-loop in line 1: its condition names no control variable
+loop in line 1, 10 turns since it was entered: its condition names no control variable
 hint: --turns allows up to 10000000, for a loop that ends
 1 subthread, 1 thread, 0 locks taken; at most 1 subthread side by side
 arithmetic: exact in every line that ran
@@ -349,9 +456,9 @@ const NESTED: &str = "task main() {
 const NESTED_TOLD: &str = "spent 0
 thread 0 took 10 loop turns in one subthread, last at the loop in line 5, in that of line 3
 thread 0: i = 2
-hint: the condition of one of these loops may stay true:
-loop in line 3: i = 2
-loop in line 5: i = 2
+hint: the condition of one of these loops may stay true, of the first most likely:
+loop in line 5, 9 turns since it was entered: i = 2
+loop in line 3, 1 turn since it was entered: i = 2
 hint: --turns allows up to 10000000, for a loop that ends
 1 subthread, 1 thread, 0 locks taken; at most 1 subthread side by side
 arithmetic: exact in every line that ran
@@ -375,10 +482,10 @@ const DEEP: &str = "task main() {
 const DEEP_TOLD: &str = "spent 0
 thread 0 took 4 loop turns in one subthread, last at the loop in line 8, in those of the lines 3, 5
 thread 0: i = 2, j = 0
-hint: the condition of one of these loops may stay true:
-loop in line 3: its condition names no control variable
-loop in line 5: i = 2
-loop in line 8: j = 0
+hint: the condition of one of these loops may stay true, of the first most likely:
+loop in line 5, 2 turns since it was entered: i = 2
+loop in line 3, 1 turn since it was entered: its condition names no control variable
+loop in line 8, 0 turns since it was entered: j = 0
 hint: --turns allows up to 10000000, for a loop that ends
 1 subthread, 1 thread, 0 locks taken; at most 1 subthread side by side
 arithmetic: exact in every line that ran
@@ -394,7 +501,7 @@ task main() {
 const OTHER_TOLD: &str = "spent 2
 thread 1 took 3 loop turns in one subthread, last at the loop in line 1
 hint: the condition of this loop may stay true:
-loop in line 1: its condition names no control variable
+loop in line 1, 3 turns since it was entered: its condition names no control variable
 hint: --turns allows up to 10000000, for a loop that ends
 3 subthreads, 2 threads, 0 locks taken; at most 1 subthread side by side
 arithmetic: exact in every line that ran
@@ -412,7 +519,7 @@ task main() {
 const MANY_TOLD: &str = "spent 5
 5 subthreads were begun; thread 0 line 4 would begin one more, in the loop in line 3
 hint: the condition of this loop may stay true:
-loop in line 3: its condition names no control variable
+loop in line 3, 3 turns since it was entered: its condition names no control variable
 hint: --subthreads allows up to 200000, for a batch that ends
 5 subthreads, 1 thread, 2 locks taken; at most 1 subthread side by side
 arithmetic: exact in every line that ran
@@ -439,9 +546,9 @@ task main() {
 const ROUNDS_TOLD: &str = "spent 2
 2 subthreads were begun; thread 0 line 10 would begin one more, in the loop in line 7, in that of line 5
 thread 0: i = 0, k = 1, n = 0
-hint: the condition of one of these loops may stay true:
-loop in line 5: i = 0
-loop in line 7: k = 1, n = 0, i = 0
+hint: the condition of one of these loops may stay true, of the first most likely:
+loop in line 7, 2 turns since it was entered: k = 1, n = 0, i = 0
+loop in line 5, 1 turn since it was entered: i = 0
 hint: --subthreads allows up to 200000, for a batch that ends
 2 subthreads, 1 thread, 1 lock taken; at most 1 subthread side by side
 arithmetic: exact in every line that ran
@@ -469,7 +576,58 @@ hint: --subthreads allows up to 200000, for a batch that ends
 arithmetic: exact in every line that ran
 ";
 
-const SPENT: [Row; 8] = [
+const ALIKE: &str = "task main() {
+  while 1 {
+    while 2 { }
+  }
+}
+";
+
+// Of two loops with as many turns the outer one is told first.
+const ALIKE_TOLD: &str = "spent 0
+thread 0 took 2 loop turns in one subthread, last at the loop in line 3, in that of line 2
+hint: the condition of one of these loops may stay true, of the first most likely:
+loop in line 2, 1 turn since it was entered: its condition names no control variable
+loop in line 3, 1 turn since it was entered: its condition names no control variable
+hint: --turns allows up to 10000000, for a loop that ends
+1 subthread, 1 thread, 0 locks taken; at most 1 subthread side by side
+arithmetic: exact in every line that ran
+";
+
+const SHARED: &str = "lock l[2];
+task t(n) {
+  while 1 {
+    lock l[n];
+    unlock l[n];
+  }
+}
+task main() {
+  fork t(0);
+  fork t(1);
+}
+";
+
+// The turns are those of thread 1 alone: they begin after its start and each time that it gave its lock back.
+const SHARED_TOLD: &str = "spent 12
+12 subthreads were begun; thread 1 line 4 would begin one more, in the loop in line 3
+thread 1: n = 0
+hint: the condition of this loop may stay true:
+loop in line 3, 3 turns since it was entered: its condition names no control variable
+hint: --subthreads allows up to 200000, for a batch that ends
+12 subthreads, 3 threads, 4 locks taken; at most 2 subthreads side by side
+arithmetic: exact in every line that ran
+";
+
+const SPENT: [Row; 10] = [
+    ("explain p.gp --turns 2", ALIKE, "", 6, ALIKE_TOLD, ""),
+    (
+        "explain p.gp --subthreads 12",
+        SHARED,
+        "",
+        6,
+        SHARED_TOLD,
+        "",
+    ),
     (
         "explain p.gp --subthreads 2",
         ROUNDS,
@@ -583,7 +741,31 @@ const NO_NAMES_TOLD: &str = "ok
 line 1: arithmetic divided by 0, once, first at position 0, thread 0
 ";
 
-const EXACT: [Row; 6] = [
+const CELLS: &str = "lock l[3];
+lock m[2];
+record sums[3] by l;
+record acct[3] by l from \"moves.csv\";
+record fees[2] by m from \"moves.csv\";
+task main() { }
+";
+
+// The file has a row for each cell of fees, and one too few for acct; sums has no file.
+const CELLS_TOLD: &str = "ok
+1 subthread, 1 thread, 0 locks taken; at most 1 subthread side by side
+arithmetic: exact in every line that ran
+hint: moves.csv gives 2 of the 3 cells of record acct another value than 0; from acct[2] on they begin with 0, as each cell without a row
+";
+
+const NO_CELLS_TOLD: &str = "ok
+1 subthread, 1 thread, 0 locks taken; at most 1 subthread side by side
+arithmetic: exact in every line that ran
+hint: moves.csv gives 0 of the 3 cells of record acct another value than 0; from acct[0] on they begin with 0, as each cell without a row
+hint: moves.csv gives 0 of the 2 cells of record fees another value than 0; from fees[0] on they begin with 0, as each cell without a row
+";
+
+const EXACT: [Row; 8] = [
+    ("explain p.gp", CELLS, "0,5\n1,6\n", 0, CELLS_TOLD, ""),
+    ("explain p.gp", CELLS, "", 0, NO_CELLS_TOLD, ""),
     ("explain p.gp", BOTH, "", 0, BOTH_TOLD, ""),
     ("explain p.gp", NO_NAMES, "", 0, NO_NAMES_TOLD, ""),
     ("explain p.gp", CONTROL, "", 0, CONTROL_TOLD, ""),

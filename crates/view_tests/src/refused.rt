@@ -15,7 +15,23 @@ feed f[1] from \"/data/f.csv\";
 task main() { }
 ";
 
-const WORDS: [Row; 21] = [
+const WORDS: [Row; 23] = [
+    (
+        "explain order p.gp",
+        EMPTY,
+        "",
+        2,
+        "hint: `order` is a command of gprs_view: explain takes a program right away, and judges the words of `run` alone\nhint: gprs_view explain PROGRAM [--faults FILE] [--turns N] [--subthreads N] [--crew CREW] [--workers N]\n",
+        USAGE,
+    ),
+    (
+        "explain check",
+        EMPTY,
+        "",
+        7,
+        "hint: check cannot be read: there is no such file, or it is a folder, or it may not be read\nhint: it is the program of this call\nhint: `check` is a command of gprs: after explain stands the name of a program alone\nhint: names are looked for from the folder in which the call is made\n",
+        "gprs_view: read fault check\n",
+    ),
     (
         "explain check p.gp --subthreads 5",
         EMPTY,

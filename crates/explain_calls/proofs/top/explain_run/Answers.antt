@@ -7,7 +7,7 @@ use Rattle.explain_calls.proofs.top.explain_run.Goals as goal
 
 pub returns-in-Ok-clause-explains : goal.returns-in-Ok-clause-explains
 returns-in-Ok-clause-explains g c =
-    let request = c.in-Ok.request in
+    let request = c.in-Ok.read.request in
     run_explains (texts c.args.words.now) (g.H.Shelf.files c.args.shelf.now) (g.H.Shelf.failed c.args.shelf.now)
     (g.H.Shelf.failed c.read_explained.new.shelf)
     (change_of g.O.Sink.written g.O.Sink.faults c.args.out.now c.tell_run.new.out)

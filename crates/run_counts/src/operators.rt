@@ -1,26 +1,51 @@
-// Where expressions divide, and whether they divide by 0.
+// Where expressions have operators that may not be exact, and whether they divide by 0.
 
 use crate::data::reckon_data;
 use gp_base::Name;
 use std::alloc::{AllocError, Global};
 use task_ast::{Env, Expr, Op, Program, Stmt, What};
 
+/// Operators: those that divide, or all that may divide by 0 or leave 64 bits.
+#[derive(Clone, Copy)]
+pub enum Sought {
+    Divisions,
+    Arithmetic,
+}
+
 fn is_division(op: Op) -> bool {
     matches!(op, Op::Div | Op::Rem)
 }
 
-// Whether an expression has a division.
-fn divides(e: &Expr) -> bool {
+fn is_arithmetic(op: Op) -> bool {
+    matches!(op, Op::Add | Op::Sub | Op::Mul | Op::Div | Op::Rem)
+}
+
+impl Sought {
+    fn is_operator(self, op: Op) -> bool {
+        match self {
+            Sought::Divisions => is_division(op),
+            Sought::Arithmetic => is_arithmetic(op),
+        }
+    }
+
+    // Whether a minus before an operand is one of them.
+    fn is_minus(self) -> bool {
+        matches!(self, Sought::Arithmetic)
+    }
+}
+
+// Whether an expression has one of these operators.
+fn has_operator(e: &Expr, sought: Sought) -> bool {
     match e {
-        Expr::Neg(a) => divides(a),
-        Expr::Not(a) => divides(a),
-        Expr::Cell(_, row, field) => divides(row) || divides(field),
+        Expr::Neg(a) => sought.is_minus() || has_operator(a, sought),
+        Expr::Not(a) => has_operator(a, sought),
+        Expr::Cell(_, row, field) => has_operator(row, sought) || has_operator(field, sought),
         Expr::Chain(first, links) => {
-            if divides(first) {
+            if has_operator(first, sought) {
                 return true;
             }
             for link in links.as_slice() {
-                if is_division(link.0) || divides(&link.1) {
+                if sought.is_operator(link.0) || has_operator(&link.1, sought) {
                     return true;
                 }
             }
@@ -30,27 +55,27 @@ fn divides(e: &Expr) -> bool {
     }
 }
 
-fn any_divides(es: &[Expr]) -> bool {
+fn some_have(es: &[Expr], sought: Sought) -> bool {
     for e in es {
-        if divides(e) {
+        if has_operator(e, sought) {
             return true;
         }
     }
     false
 }
 
-// Whether a statement has a division outside of its blocks.
-fn has_division(what: &What) -> bool {
+// Whether a statement has one of these operators outside of its blocks.
+fn has_one(what: &What, sought: Sought) -> bool {
     match what {
-        What::SetCtl(_, e) => divides(e),
-        What::SetReg(_, e) => divides(e),
-        What::While(e, _) => divides(e),
-        What::If(e, _, _) => divides(e),
-        What::When(e, _, _) => divides(e),
-        What::Join(e, _) => divides(e),
-        What::Write(_, _, e) => divides(e),
-        What::Fork(_, es, _) => any_divides(es.as_slice()),
-        What::Print(es) => any_divides(es.as_slice()),
+        What::SetCtl(_, e) => has_operator(e, sought),
+        What::SetReg(_, e) => has_operator(e, sought),
+        What::While(e, _) => has_operator(e, sought),
+        What::If(e, _, _) => has_operator(e, sought),
+        What::When(e, _, _) => has_operator(e, sought),
+        What::Join(e, _) => has_operator(e, sought),
+        What::Write(_, _, e) => has_operator(e, sought),
+        What::Fork(_, es, _) => some_have(es.as_slice(), sought),
+        What::Print(es) => some_have(es.as_slice(), sought),
         What::Lock(_, _)
         | What::Unlock(_, _)
         | What::Read(_, _, _)
@@ -59,38 +84,39 @@ fn has_division(what: &What) -> bool {
     }
 }
 
-// Marks the lines of these statements, and of those in their blocks, that have a division.
-fn mark(lines: &mut Vec<bool>, block: &[Stmt]) {
+// Marks the lines of these statements, and of those in their blocks, that have one of these operators.
+fn mark(lines: &mut Vec<bool>, block: &[Stmt], sought: Sought) {
     for stmt in block {
-        if has_division(&stmt.what) {
+        if has_one(&stmt.what, sought) {
             if let Some(line) = lines.get_mut(stmt.line as usize) {
                 *line = true;
             }
         }
         match &stmt.what {
-            What::While(_, body) => mark(lines, body.as_slice()),
+            What::While(_, body) => mark(lines, body.as_slice(), sought),
             What::If(_, first, second) => {
-                mark(lines, first.as_slice());
-                mark(lines, second.as_slice());
+                mark(lines, first.as_slice(), sought);
+                mark(lines, second.as_slice(), sought);
             }
             What::When(_, first, second) => {
-                mark(lines, first.as_slice());
-                mark(lines, second.as_slice());
+                mark(lines, first.as_slice(), sought);
+                mark(lines, second.as_slice(), sought);
             }
             _ => {}
         }
     }
 }
 
-/// For so many lines whether a statement in it has a division. The error is that memory is out.
-pub fn dividing_lines(
+/// For so many lines whether a statement in it has one of these operators. The error is that memory is out.
+pub fn lines_with(
     alloc: Global,
     program: &Program,
+    sought: Sought,
     count: usize,
 ) -> Result<Vec<bool>, AllocError> {
     let mut lines = Vec::from_elem(alloc, false, count)?;
     for task in program.tasks.as_slice() {
-        mark(&mut lines, task.body.as_slice());
+        mark(&mut lines, task.body.as_slice(), sought);
     }
     Ok(lines)
 }
