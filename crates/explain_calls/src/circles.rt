@@ -43,11 +43,12 @@ fn circle_from(
         let Some(waiting) = waiting_of(standing, at) else {
             return Ok(None);
         };
+        let owner = waiting.owner;
         circle.push(waiting)?;
-        at = waiting.owner;
-        if at == thread {
+        if owner == thread {
             return Ok(Some(circle));
         }
+        at = owner;
     }
     Ok(None)
 }
