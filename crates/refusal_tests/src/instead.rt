@@ -11,7 +11,7 @@ type Case = (&'static [u8], &'static [u8]);
 const BEFORE: &[u8] =
     b"lock bank[4];\nrecord acct[4] by bank;\nfeed moves[2] from \"moves.csv\";\nbarrier step(2);\ntask t(n) {\n}\ntask main() {\n  var i, j, $x;\n";
 
-const STATEMENTS: [Case; 94] = [
+const STATEMENTS: [Case; 48] = [
     (
         b"i = moves.rows;",
         b"no name has fields: `rows(f)` is the number of rows of feed f",
@@ -129,6 +129,10 @@ const STATEMENTS: [Case; 94] = [
         b"exit;",
         b"`exit` is no word of the language; a variable is set by `exit = e;`",
     ),
+];
+
+// The same, in a table of its own: the proof of a test goes through all of its table.
+const MORE_STATEMENTS: [Case; 46] = [
     (
         b"WHILE i < 3 { }",
         b"`WHILE` is no word of the language: those are in lower case",
@@ -316,14 +320,31 @@ fn ends_with_hint(alloc: Global, text: &[u8], hint: &[u8]) -> Result<bool, Alloc
     Ok(text.ends_with(&last))
 }
 
+// What is told of a program with this statement.
+fn told_of(alloc: Global, statement: &[u8]) -> Result<Vec<u8>, AllocError> {
+    let mut program = Vec::from_slice(alloc, BEFORE)?;
+    program.extend_from_slice(statement)?;
+    program.extend_from_slice(b"\n}\n")?;
+    told(alloc, &program, UnknownName, 9)
+}
+
 #[test]
 fn statements_in_other_words(rt: HostRuntime) -> Result<(), Fail> {
     let alloc = rt.alloc();
     for (statement, hint) in &STATEMENTS {
-        let mut program = Vec::from_slice(alloc, BEFORE)?;
-        program.extend_from_slice(statement)?;
-        program.extend_from_slice(b"\n}\n")?;
-        let text = told(alloc, &program, UnknownName, 9)?;
+        let text = told_of(alloc, statement)?;
+        if !ends_with_hint(alloc, &text, hint)? {
+            assert_eq!(rt; text.as_slice(), *hint);
+        }
+    }
+    Ok(())
+}
+
+#[test]
+fn more_statements_in_other_words(rt: HostRuntime) -> Result<(), Fail> {
+    let alloc = rt.alloc();
+    for (statement, hint) in &MORE_STATEMENTS {
+        let text = told_of(alloc, statement)?;
         if !ends_with_hint(alloc, &text, hint)? {
             assert_eq!(rt; text.as_slice(), *hint);
         }
