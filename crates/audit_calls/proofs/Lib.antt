@@ -1,7 +1,11 @@
+pub mod JournalTexts
+pub mod NarrowLines
 pub mod NarrowRuns
+pub mod NumberedRestarts
 pub mod Readings
 pub mod SomeJudge
 pub mod Sound
 pub mod TracesJudged
 pub mod TrialCases
 pub mod Verdicts
+pub mod WholeRuns

@@ -5,7 +5,7 @@ use Rattle.task_ast.specs.meaning.Run.{plain_order}
 use Rattle.task_ast.specs.Plain.{tree_machine}
 use Rattle.task_ast.proofs.PlainRuns.{count_law}
 use Rattle.task_ast.proofs.Runs.{order-is}
-use Rattle.gp_traces.specs.Laws.{IsNarrowRun}
+use Rattle.audit_calls.specs.TraceLaws.{IsNarrowRun}
 use Rattle.call_cases.specs.meaning.Work.{Files, ToDo, Go}
 use Rattle.call_cases.specs.meaning.Case.{IsCase}
 use Rattle.call_cases.specs.meaning.Journals.{run_of}

@@ -17,10 +17,10 @@ use Rattle.gp_audit.specs.declared.verdict.Verdict.{Verdict}
 use Rattle.gp_audit.specs.declared.verdict.Verdict.TheVariants.{Lawful}
 use Rattle.gp_audit.specs.meaning.Answer.{verdict_text, verdict_status}
 use Rattle.gp_audit.specs.meaning.Verdicts.{IsVerdict}
-use Rattle.gp_traces.specs.Laws.{IsWholeRun}
+use Rattle.audit_calls.specs.TraceLaws.{IsWholeRun}
 use Rattle.audit_calls.proofs.NarrowRuns.{narrow_run}
 use Rattle.gp_audit.proofs.Orders.{order-is}
-use Rattle.gp_traces.proofs.WholeRuns.{audit-is-lawful}
+use Rattle.audit_calls.proofs.WholeRuns.{audit-is-lawful}
 use Rattle.command_line.specs.declared.asked.Command.{Command}
 use Rattle.command_line.specs.declared.asked.Command.TheVariants as command
 use Rattle.call_cases.specs.meaning.Work.{Files, ToDo, is_journalled, Go}

@@ -1,2 +1,4 @@
 pub mod inner
+pub mod JournalLines
 pub mod meaning
+pub mod TraceLaws

@@ -14,7 +14,7 @@ use Rattle.dependence.specs.meaning.Counts.{is_restart}
 use Rattle.gp_audit.specs.meaning.Verdicts.{LawfulLines}
 use Rattle.gp_audit.specs.ToldLines.{events_from, events_of, restarts_told}
 use Rattle.gp_audit.proofs.ToldVerdicts.{lawful-lines}
-use Rattle.gp_traces.specs.Told.{restart_line, event_lines}
+use Rattle.audit_calls.specs.JournalLines.{restart_line, event_lines}
 
 past-none : {A : Type 0} (xs : List A) (k : ℕ) → slice_get xs k ≡ None → length xs ≤ k
 past-none [] k e = omega arith

@@ -1,7 +1,7 @@
-use Rattle.gp_traces.proofs.Numbered.{lines-lawful}
+use Rattle.audit_calls.proofs.NumberedRestarts.{lines-lawful}
 use Rattle.gp_audit.proofs.Orders.{order-is}
-use Rattle.gp_traces.proofs.Texts.{text-is}
-use Rattle.gp_traces.proofs.laws.trace_laws.Goals as goal
+use Rattle.audit_calls.proofs.JournalTexts.{text-is}
+use Rattle.audit_calls.proofs.laws.journal_laws.Goals as goal
 
 pub returns-clause-text : goal.returns-clause-text
 returns-clause-text c = λ journal. text-is journal.restarts journal.events

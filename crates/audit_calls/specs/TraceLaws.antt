@@ -21,7 +21,7 @@ use Rattle.gp_audit.specs.Reading.{AnswersTrace}
 use Rattle.gp_audit.specs.Steps.{dependence_by}
 use Rattle.gp_audit.specs.meaning.Verdicts.{LawfulLines, IsVerdict}
 use Rattle.gp_audit.specs.ToldLines.{events_of}
-use Rattle.gp_traces.specs.Told.{lines_of}
+use Rattle.audit_calls.specs.JournalLines.{lines_of}
 
 -- the trace of a journal is the text of its lines
 abbrev pub TextLaw : Type 0
@@ -57,8 +57,8 @@ pub record IsNarrowRun (run : List Subthread) (faults : List Fault) : Type 0 whe
   pub narrow : All IsNarrowFault faults
 
 -- the trace of a whole run is read, unless memory is out, and an audit of its lines by the plain run answers that they are lawful
-abbrev pub AuditLaw : Type 0
-AuditLaw =
+abbrev pub WholeRunLaw : Type 0
+WholeRunLaw =
     (run : List Subthread) (faults : List Fault) (journal : Journal) (read : Result (List TraceLine) TraceFault) → IsNarrowRun run faults
     → IsWholeRun run faults journal
     → AnswersTrace (trace_text journal) read

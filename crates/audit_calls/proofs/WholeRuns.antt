@@ -26,12 +26,12 @@ use Rattle.gp_audit.proofs.Fronts.{verdict_once}
 use Rattle.gp_audit.proofs.Once.{read_once}
 use Rattle.gp_audit.proofs.ToldVerdicts.{tell-lawful, told-verdict}
 use Rattle.gp_audit.proofs.TraceTexts.{trace-of}
-use Rattle.gp_traces.specs.Laws.{IsWholeRun, IsNarrowRun}
-use Rattle.gp_traces.specs.Told.{lines_of}
-use Rattle.gp_traces.proofs.Narrow.{restarts-narrow, lines-narrow}
-use Rattle.gp_traces.proofs.Numbered.{lines-lawful}
+use Rattle.audit_calls.specs.TraceLaws.{IsWholeRun, IsNarrowRun}
+use Rattle.audit_calls.specs.JournalLines.{lines_of}
+use Rattle.audit_calls.proofs.NarrowLines.{restarts-narrow, lines-narrow}
+use Rattle.audit_calls.proofs.NumberedRestarts.{lines-lawful}
 use Rattle.gp_audit.proofs.Orders.{order-is}
-use Rattle.gp_traces.proofs.Texts.{text-is}
+use Rattle.audit_calls.proofs.JournalTexts.{text-is}
 
 front-narrow : (restarts rest : List Restart) → All IsNarrowRestart (restarts ++ rest) → All IsNarrowRestart restarts
 front-narrow restarts rest all k d l =

@@ -18,8 +18,8 @@ use Rattle.dependence.proofs.Standing.{initial-stands, stands-from}
 use Rattle.dependence.proofs.Struck.{struck-live}
 use Rattle.gp_audit.specs.declared.line.TraceLine.TheVariants as line
 use Rattle.gp_audit.specs.LineTexts.{IsNarrowRestart, IsNarrowLine}
-use Rattle.gp_traces.specs.Laws.{IsNarrowFault}
-use Rattle.gp_traces.specs.Told.{restart_line, event_lines}
+use Rattle.audit_calls.specs.TraceLaws.{IsNarrowFault}
+use Rattle.audit_calls.specs.JournalLines.{restart_line, event_lines}
 
 allowed-at : (dependence : Dependence) (faults : List Fault) (at : Stage) (done : List Event) (e : Event) (more : List Event)
     → LawfulFrom dependence faults at (done ++ e ∷ more) → Allowed dependence faults (stage_from dependence faults at done) e

@@ -1,4 +1,0 @@
-pub mod Narrow
-pub mod Numbered
-pub mod Texts
-pub mod WholeRuns
