@@ -24,7 +24,7 @@ use crate::log::{Logged, replay_log};
 use crate::stop::ResumeStop;
 use crate::waves::{Leader, go_wave};
 use crew::{Crew, MeanSteps};
-use gp_base::{End, Inputs, Journal, Nums, Seq, Sink, SinkFault, Text, put_all};
+use gp_base::{End, Inputs, Journal, Limits, Nums, Seq, Sink, SinkFault, Text, put_all};
 use reorder_list::Report;
 use std::alloc::Global;
 use std::snapshot::Snapshot;
@@ -152,7 +152,7 @@ pub fn resume_paced<R: Threads + Sync, C: Crew, O: Sink>(
     out: &mut O,
 ) -> Result<(u64, Report), ResumeStop>
     requires { MayBegin C.ready C.work C.out C.posted paced.work.now opening log.now crew.old }
-    ensures { DrivesRest (program_in paced.work.now) opening.inputs opening.limits log.now (O.written out.old) (O.written out.new) (O.faults out.old) (O.faults out.new) (C.posted crew.new) result }
+    ensures { DrivesRest (program_in paced.entry.work.now) opening.inputs opening.limits log.now (O.written out.old) (O.written out.new) (O.faults out.old) (O.faults out.new) (C.posted crew.new) result }
 {
     let PacedWork { work, mean_steps } = paced;
     let Opening {
@@ -178,19 +178,26 @@ pub fn resume_paced<R: Threads + Sync, C: Crew, O: Sink>(
 pub fn resume_drive<R: Threads + Sync, C: Crew, O: Sink>(
     rt: &R,
     alloc: Global,
-    work: &Work,
-    opening: Opening,
+    w: &Work,
+    layout: Layout,
+    inputs: Inputs,
+    limits: Limits,
     log: &Text,
     crew: &mut C,
     out: &mut O,
 ) -> Result<(u64, Report), ResumeStop>
-    requires { MayBegin C.ready C.work C.out C.posted work.now opening log.now crew.old }
-    ensures { DrivesRest (program_in work.now) opening.inputs opening.limits log.now (O.written out.old) (O.written out.new) (O.faults out.old) (O.faults out.new) (C.posted crew.new) result }
+    requires { MayBegin C.ready C.work C.out C.posted w.now (record { layout = layout; inputs = inputs; limits = limits }) log.now crew.old }
+    ensures { DrivesRest (program_in w.now) inputs limits log.now (O.written out.old) (O.written out.new) (O.faults out.old) (O.faults out.new) (C.posted crew.new) result }
 {
-    let mean_steps = MeanSteps::new(alloc, work);
+    let mean_steps = MeanSteps::new(alloc, w);
     let paced = PacedWork {
-        work,
+        work: w,
         mean_steps: &mean_steps,
+    };
+    let opening = Opening {
+        layout,
+        inputs,
+        limits,
     };
     resume_paced(rt, alloc, paced, opening, log, crew, out)
 }
