@@ -1,4 +1,5 @@
 pub mod Laws
 pub mod Resuming
+pub mod Starting
 pub mod inner
 pub mod meaning

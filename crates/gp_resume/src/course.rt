@@ -9,8 +9,24 @@ use record_store::Store;
 use std::alloc::{AllocError, Global};
 use std::snapshot::Snapshot;
 use subthread::Work;
-use task_ast::Next;
+use task_ast::{Layout, Next};
 use token_order::Ring;
+
+/// What a run begins with: the layout of its cells, its inputs, and its limits.
+#[derive(Drop)]
+pub struct Opening {
+    pub layout: Layout,
+    pub inputs: Inputs,
+    pub limits: Limits,
+}
+
+/// The work that the tasks of a run share, beside the table in which a crew notes how many steps its subthreads make, if
+/// it does.
+#[derive(Drop)]
+pub struct PacedWork<'a> {
+    pub work: &'a Work,
+    pub mean_steps: &'a MeanSteps,
+}
 
 /// What is run: the work that its tasks share, the inputs as they were at its start, and its limits. And how many steps its
 /// subthreads are reckoned to make, by which it is chosen how many go at a time.

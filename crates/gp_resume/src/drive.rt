@@ -8,17 +8,18 @@ ghost use Rattle.task_ast.specs.meaning.Plain.{Subthread};
 ghost use Rattle.task_ast.specs.Plain.{Plain};
 ghost use Rattle.task_ast.specs.meaning.Layout.{layout};
 ghost use Rattle.record_store.specs.Stored.{IsAllHome};
-ghost use Rattle.subthread.specs.Tasks.{Suits, program_in};
+ghost use Rattle.subthread.specs.Tasks.{program_in};
 ghost use Rattle.restart_log.specs.meaning.Lines.{printed};
 ghost use Rattle.retirement_log.specs.meaning.Rows.{Retirement};
 ghost use Rattle.gp_resume.specs.meaning.Reading.{IsLogOf};
 ghost use Rattle.gp_resume.specs.meaning.Resumed.{lines_of, lines, count};
 ghost use Rattle.gp_resume.specs.Resuming.{AnswersLog, IsRefused, DrivesRest, HasResumeCause};
+ghost use Rattle.gp_resume.specs.Starting.{IsUnposted, MayBegin};
 ghost use Rattle.gp_resume.specs.inner.Course.{IsSuited, IsBegun, Stands, Begins};
 ghost use Rattle.gp_resume.specs.inner.Going.{rest, WentOn, firsts_from, Replays};
 
 use crate::beginning::begin;
-use crate::course::{Course, Plan, Step};
+use crate::course::{Course, Opening, PacedWork, Plan, Step};
 use crate::log::{Logged, replay_log};
 use crate::stop::ResumeStop;
 use crate::waves::{Leader, go_wave};
@@ -56,10 +57,7 @@ fn go_on<R: Threads + Sync, C: Crew, O: Sink>(
 ) -> Result<End, ResumeStop>
     requires suits { IsSuited plan.now }
     requires stands { (x : Plain) × Stands plan.now x course.old }
-    requires ready { C.ready crew.old }
-    requires work { C.work crew.old ≡ plan.now.work.now }
-    requires none_out { C.out crew.old ≡ [] }
-    requires none_posted { C.posted crew.old ≡ [] }
+    requires unposted { IsUnposted C.ready C.work C.out C.posted plan.now.work.now crew.old }
     ensures end { IfOk result (λ end. (x : Plain) → Stands plan.now x course.old → WentOn plan.now x end course.new) }
     ensures lines { OnOk result ((x : Plain) → Stands plan.now x course.old → Appends (O.written out.old) (O.written out.new) (printed (lines_of (rest plan.now x)))) }
     ensures partly { (x : Plain) → Stands plan.now x course.old → AppendsPrefix (O.written out.old) (O.written out.new) (printed (lines_of (rest plan.now x))) }
@@ -137,7 +135,7 @@ fn report_of(alloc: Global, end: End, course: Course) -> Report
 /// how many bytes the text had up to the lines of the last row, or 0 where there is none, and what the run comes to,
 /// whose count has the positions of the log too.
 ///
-/// `mean_steps` is the table in which the crew notes the steps of its runs, if it does: a subthread that is light by it goes
+/// `paced` has the table in which the crew notes the steps of its runs, if it does: a subthread that is light by it goes
 /// alone, and others begin beside one that is heavy or new.
 ///
 /// `LogLine` and `LogFit` tell the first row of the log that is none, or that does not fit the program, these inputs and
@@ -147,25 +145,23 @@ fn report_of(alloc: Global, end: End, course: Course) -> Report
 pub fn resume_paced<R: Threads + Sync, C: Crew, O: Sink>(
     rt: &R,
     alloc: Global,
-    w: &Work,
-    layout: Layout,
-    inputs: Inputs,
-    limits: Limits,
+    paced: PacedWork<'_>,
+    opening: Opening,
     log: &Text,
-    mean_steps: &MeanSteps,
     crew: &mut C,
     out: &mut O,
 ) -> Result<(u64, Report), ResumeStop>
-    requires suits { Suits w.now layout inputs limits }
-    requires short { length log.now ≤ MOST_FILE_BYTES }
-    requires ready { C.ready crew.old }
-    requires work { C.work crew.old ≡ w.now }
-    requires none_out { C.out crew.old ≡ [] }
-    requires none_posted { C.posted crew.old ≡ [] }
-    ensures { DrivesRest (program_in w.now) inputs limits log.now (O.written out.old) (O.written out.new) (O.faults out.old) (O.faults out.new) (C.posted crew.new) result }
+    requires { MayBegin C.ready C.work C.out C.posted paced.work.now opening log.now crew.old }
+    ensures { DrivesRest (program_in paced.entry.work.now) opening.inputs opening.limits log.now (O.written out.old) (O.written out.new) (O.faults out.old) (O.faults out.new) (C.posted crew.new) result }
 {
+    let PacedWork { work, mean_steps } = paced;
+    let Opening {
+        layout,
+        inputs,
+        limits,
+    } = opening;
     let plan = Plan {
-        work: w,
+        work,
         inputs: Snapshot::of(&inputs),
         limits,
         mean_steps,
@@ -190,25 +186,18 @@ pub fn resume_drive<R: Threads + Sync, C: Crew, O: Sink>(
     crew: &mut C,
     out: &mut O,
 ) -> Result<(u64, Report), ResumeStop>
-    requires suits { Suits w.now layout inputs limits }
-    requires short { length log.now ≤ MOST_FILE_BYTES }
-    requires ready { C.ready crew.old }
-    requires work { C.work crew.old ≡ w.now }
-    requires none_out { C.out crew.old ≡ [] }
-    requires none_posted { C.posted crew.old ≡ [] }
+    requires { MayBegin C.ready C.work C.out C.posted w.now (record { layout = layout; inputs = inputs; limits = limits }) log.now crew.old }
     ensures { DrivesRest (program_in w.now) inputs limits log.now (O.written out.old) (O.written out.new) (O.faults out.old) (O.faults out.new) (C.posted crew.new) result }
 {
     let mean_steps = MeanSteps::new(alloc, w);
-    resume_paced(
-        rt,
-        alloc,
-        w,
+    let paced = PacedWork {
+        work: w,
+        mean_steps: &mean_steps,
+    };
+    let opening = Opening {
         layout,
         inputs,
         limits,
-        log,
-        &mean_steps,
-        crew,
-        out,
-    )
+    };
+    resume_paced(rt, alloc, paced, opening, log, crew, out)
 }

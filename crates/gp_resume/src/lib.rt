@@ -21,6 +21,7 @@ mod stop;
 mod turning;
 mod waves;
 
+pub use course::{Opening, PacedWork};
 pub use drive::{put, resume_drive, resume_paced};
 pub use reading::ends_no_line;
 pub use stop::ResumeStop;

@@ -281,7 +281,7 @@ fn go_alone<R: Threads + Sync, C: Crew, O: Sink>(
 {
     match crew.next(rt)? {
         Some(done) => bring(alloc, course, out, done),
-        None => unreachable!(),
+        None => Ok(()),
     }
 }
 

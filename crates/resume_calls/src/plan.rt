@@ -4,20 +4,17 @@ ghost use Rattle.call_cases.specs.Decided.{IsSound, program_in};
 ghost use Rattle.resume_calls.specs.inner.Resting.{IsPlanOf};
 
 use call_cases::{Request, copied_feeds};
-use gp_base::{Inputs, Limits};
+use gp_resume::Opening;
 use lock_checker::Checked;
 use std::alloc::{AllocError, Global};
 use subthread::{Recheck, Work};
-use task_ast::Layout;
 use task_code::lower;
 
 /// A run that may begin, beside its program as code: the accepted program, and what the run begins with.
 #[derive(Drop)]
 pub struct Plan {
     pub checked: Checked,
-    pub layout: Layout,
-    pub inputs: Inputs,
-    pub limits: Limits,
+    pub opening: Opening,
 }
 
 /// The code of a request's program, and the plan of its run. The error is that memory is out.
@@ -25,8 +22,8 @@ pub fn plan_of(alloc: Global, request: Request) -> Result<(Work, Plan), AllocErr
     requires { IsSound request.asked (program_in request) request.inputs }
     ensures plan { IfOk result (λ made. IsPlanOf made.0 made.1) }
     ensures checked { IfOk result (λ made. made.1.checked ≡ request.checked) }
-    ensures inputs { IfOk result (λ made. made.1.inputs ≡ request.inputs) }
-    ensures limits { IfOk result (λ made. made.1.limits ≡ request.asked.limits) }
+    ensures inputs { IfOk result (λ made. made.1.opening.inputs ≡ request.inputs) }
+    ensures limits { IfOk result (λ made. made.1.opening.limits ≡ request.asked.limits) }
 {
     let Request {
         asked,
@@ -44,11 +41,11 @@ pub fn plan_of(alloc: Global, request: Request) -> Result<(Work, Plan), AllocErr
         turns: limits.turns,
         recheck: Recheck::once(),
     };
-    let plan = Plan {
-        checked,
+    let opening = Opening {
         layout,
         inputs,
         limits,
     };
+    let plan = Plan { checked, opening };
     Ok((work, plan))
 }

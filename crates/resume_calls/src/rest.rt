@@ -1,22 +1,22 @@
 // Writes the text that is still to come of a run that goes on.
-ghost use Rattle.std.specs.Prelude.{◌≡◌, ◌≤◌, [], length};
+ghost use Rattle.std.specs.Prelude.{◌≤◌, length};
 ghost use Rattle.gp_base.specs.declared.limits.TheConstants.{MOST_FILE_BYTES};
 ghost use Rattle.task_ast.specs.View.{plain_program};
 ghost use Rattle.lock_checker.specs.Accepted.{program_of};
+ghost use Rattle.gp_resume.specs.Starting.{IsUnposted};
 ghost use Rattle.call_cases.specs.meaning.Answers.{change_of};
 ghost use Rattle.resume_calls.specs.inner.Resting.{IsPlanOf, PutsFirst, PutsTail, Resumes};
 
 use crate::plan::Plan;
 use call_cases::end_status;
-use crew::{Crew, MeanSteps};
+use crew::Crew;
 use gp_base::{Sink, Text};
-use gp_resume::{ResumeStop, ends_no_line, put, resume_paced};
+use gp_resume::{PacedWork, ResumeStop, ends_no_line, put, resume_paced};
 use lock_checker::Checked;
 use reorder_list::Report;
 use restart_log::tail_text;
 use std::alloc::Global;
 use std::thread::Threads;
-use subthread::Work;
 
 /// The line before the printed lines.
 const OUTPUT: &[u8] = b"output\n";
@@ -44,40 +44,29 @@ fn put_tail<O: Sink>(
     put(out, tail.as_slice())
 }
 
-/// Goes on with the run of a plan from the text of its log, by a crew to which nothing was posted, with the table in which
-/// that notes the steps of its runs, and writes the text that is still to come: the first line where it was not written
-/// before, the printed lines, and the tail. The answer is the status.
+/// Goes on with the run of a plan from the text of its log, by a crew to which nothing was posted, beside whose work stands
+/// the table in which it notes the steps of its runs, and writes the text that is still to come: the first line where it
+/// was not written before, the printed lines, and the tail. The answer is the status.
 pub fn put_rest<R: Threads + Sync, C: Crew, O: Sink>(
     rt: &R,
     alloc: Global,
-    code: &Work,
+    paced: PacedWork<'_>,
     plan: Plan,
     log: &Text,
-    mean_steps: &MeanSteps,
     crew: &mut C,
     out: &mut O,
 ) -> Result<u8, ResumeStop>
-    requires planned { IsPlanOf code.now plan }
+    requires planned { IsPlanOf paced.work.now plan }
     requires short { length log.now ≤ MOST_FILE_BYTES }
-    requires ready { C.ready crew.old }
-    requires work { C.work crew.old ≡ code.now }
-    requires none_out { C.out crew.old ≡ [] }
-    requires none_posted { C.posted crew.old ≡ [] }
-    ensures { Resumes (plain_program (program_of plan.checked)) plan.inputs plan.limits log.now (change_of O.written O.faults out.old out.new) result }
+    requires unposted { IsUnposted C.ready C.work C.out C.posted paced.work.now crew.old }
+    ensures { Resumes (plain_program (program_of plan.checked)) plan.opening.inputs plan.opening.limits log.now (change_of O.written O.faults out.old out.new) result }
 {
-    let Plan {
-        checked,
-        layout,
-        inputs,
-        limits,
-    } = plan;
+    let Plan { checked, opening } = plan;
     match put_first(log, out) {
         Ok(()) => {}
         Err(stop) => return Err(stop),
     }
-    let report = match resume_paced(
-        rt, alloc, code, layout, inputs, limits, log, mean_steps, crew, out,
-    ) {
+    let report = match resume_paced(rt, alloc, paced, opening, log, crew, out) {
         Ok((_, report)) => report,
         Err(stop) => return Err(stop),
     };

@@ -14,7 +14,7 @@ use crate::rest::put_rest;
 use call_cases::Request;
 use crew::{BatchCrew, MeanSteps, run_wave};
 use gp_base::{Gate, Seq, Sink, Text};
-use gp_resume::ResumeStop;
+use gp_resume::{PacedWork, ResumeStop};
 use std::alloc::{AllocError, Global};
 use std::thread::Threads;
 use subthread::{Done, Task, Work};
@@ -35,7 +35,7 @@ fn put_by_waves<R: Threads + Sync, O: Sink, G: Gate>(
 ) -> Result<u8, ResumeStop>
     requires planned { IsPlanOf work.now plan }
     requires short { length log.now ≤ MOST_FILE_BYTES }
-    ensures { Resumes (plain_program (program_of plan.checked)) plan.inputs plan.limits log.now (change_of O.written O.faults out.old out.new) result }
+    ensures { Resumes (plain_program (program_of plan.checked)) plan.opening.inputs plan.opening.limits log.now (change_of O.written O.faults out.old out.new) result }
 {
     let mean_steps = MeanSteps::new(alloc, work);
     let run_all = |tasks: Seq<Task>| -> Result<Seq<Done>, AllocError>
@@ -43,7 +43,11 @@ fn put_by_waves<R: Threads + Sync, O: Sink, G: Gate>(
         ensures { IfOk result (AreRuns work.entry.now tasks) }
     { run_wave(rt, alloc, work, gate, &mean_steps, WORKERS, tasks) };
     let mut crew = BatchCrew::new(alloc, work, run_all);
-    put_rest(rt, alloc, work, plan, log, &mean_steps, &mut crew, out)
+    let paced = PacedWork {
+        work,
+        mean_steps: &mean_steps,
+    };
+    put_rest(rt, alloc, paced, plan, log, &mut crew, out)
 }
 
 /// Goes on with what is requested from the text of its log, and writes the text that is still to come. The answer is

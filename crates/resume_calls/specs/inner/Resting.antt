@@ -29,7 +29,7 @@ use Rattle.resume_calls.specs.declared.plan.Plan.{Plan}
 
 -- the code is that of the accepted program, and what its run begins with suits it
 pub record IsPlanOf (code : Work) (plan : Plan) : Type 0 where
-  pub suits : Suits code plan.layout plan.inputs plan.limits
+  pub suits : Suits code plan.opening.layout plan.opening.inputs plan.opening.limits
   pub program_is : program_in code ≡ plain_program (program_of plan.checked)
 
 -- Writes the first line, where no line ends in a log with these bytes; else nothing.

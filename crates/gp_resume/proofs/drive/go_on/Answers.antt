@@ -34,10 +34,10 @@ pub going-init : goal.going-init
 going-init g c =
     record {
       went = λ x stands. went-first c.args.plan.now x (g.O.Sink.written c.args.out.now) (g.C.Crew.posted c.args.crew.now) c.args.course.now
-          stands c.requires.none_posted;
-      is_ready = c.requires.ready;
-      work_is = c.requires.work;
-      none_out = c.requires.none_out;
+          stands c.requires.unposted.none_posted;
+      is_ready = c.requires.unposted.is_ready;
+      work_is = c.requires.unposted.work_is;
+      none_out = c.requires.unposted.none_out;
       later = omega arith;
     }
 

@@ -11,7 +11,12 @@ use Rattle.gp_resume.proofs.drive.resume_paced.Goals.{In_ok-course}
 
 -- what is run
 abbrev plan-of : (g : _) (c : In_ok-course g) → Plan
-plan-of g c = record { work = c.args.w; inputs = c.of.result; limits = c.args.limits; mean_steps = c.args.mean_steps }
+plan-of g c = record {
+  work = c.args.paced.work;
+  inputs = c.of.result;
+  limits = c.args.opening.limits;
+  mean_steps = c.args.paced.mean_steps;
+}
 
 -- the course stands where the rows of the log leave the run
 replays : (g : _) (c : In_ok-course g) → Replays (plan-of g c) c.args.log.now c.in_ok-course.logged c.in_ok-course.course
@@ -28,8 +33,8 @@ returns-in_err-course g c =
       partly = search rules;
       posts = search rules;
       some = λ rows is_log.
-          none-once (g.C.Crew.posted c.args.crew.now) (length rows) (count (program_in c.args.w.now) c.args.inputs c.args.limits rows)
-          c.requires.none_posted;
+          none-once (g.C.Crew.posted c.args.crew.now) (length rows)
+          (count (program_in c.args.paced.work.now) c.args.opening.inputs c.args.opening.limits rows) c.requires.unposted.none_posted;
       cause = search rules;
     }
 
@@ -40,8 +45,8 @@ returns-in_err-end g c =
     let stopped = err_from_is_err_and result c.from_residual-in_err-end.ensures.1 in
     let told : ¬ IsRefused result = search rules in
     let cause : HasResumeCause (g.O.Sink.faults c.args.out.now) (g.O.Sink.faults c.go_on.new.out) result = search rules in
-    subst (λ inputs. DrivesRest (program_in c.args.w.now) inputs c.args.limits c.args.log.now (g.O.Sink.written c.args.out.now)
-    (g.O.Sink.written c.go_on.new.out) (g.O.Sink.faults c.args.out.now) (g.O.Sink.faults c.go_on.new.out)
+    subst (λ inputs. DrivesRest (program_in c.args.paced.work.now) inputs c.args.opening.limits c.args.log.now
+    (g.O.Sink.written c.args.out.now) (g.O.Sink.written c.go_on.new.out) (g.O.Sink.faults c.args.out.now) (g.O.Sink.faults c.go_on.new.out)
     (g.C.Crew.posted c.go_on.new.crew) result) c.of.ensures
     (drives-to-stop (plan-of g at) c.args.log.now c.in_ok-course.logged c.in_ok-course.course (replays g at)
     (g.O.Sink.written c.args.out.now) (g.O.Sink.written c.go_on.new.out) (g.O.Sink.faults c.args.out.now) (g.O.Sink.faults c.go_on.new.out)
@@ -63,8 +68,8 @@ report_of-requires g c =
 pub returns : goal.returns
 returns g c =
     let at = (goal.at.returns g c).In_ok-course in
-    subst (λ inputs. DrivesRest (program_in c.args.w.now) inputs c.args.limits c.args.log.now (g.O.Sink.written c.args.out.now)
-    (g.O.Sink.written c.go_on.new.out) (g.O.Sink.faults c.args.out.now) (g.O.Sink.faults c.go_on.new.out)
+    subst (λ inputs. DrivesRest (program_in c.args.paced.work.now) inputs c.args.opening.limits c.args.log.now
+    (g.O.Sink.written c.args.out.now) (g.O.Sink.written c.go_on.new.out) (g.O.Sink.faults c.args.out.now) (g.O.Sink.faults c.go_on.new.out)
     (g.C.Crew.posted c.go_on.new.crew) (Ok (c.text_bytes.result, c.report_of.result))) c.of.ensures
     (drives-to-end (plan-of g at) c.args.log.now c.in_ok-course.logged c.in_ok-course.course (replays g at)
     (g.O.Sink.written c.args.out.now) (g.O.Sink.written c.go_on.new.out) (g.O.Sink.faults c.args.out.now) (g.O.Sink.faults c.go_on.new.out)

@@ -4,7 +4,7 @@ use Rattle.gp_resume.proofs.Fillings.{run-of-one}
 use Rattle.gp_resume.proofs.WavesGone.{alone-may, alone-partly, alone-went}
 use Rattle.std.proofs.lemmas.Result.{on_ok_weaker}
 use Rattle.gp_resume.proofs.waves.go_alone.Goals as goal
-use Rattle.gp_resume.proofs.waves.go_alone.Goals.{In-Some}
+use Rattle.gp_resume.proofs.waves.go_alone.Goals.{In-Some, In-None}
 
 -- it came back, and none is out
 back : (g : _) (c : In-Some g)
@@ -12,6 +12,10 @@ back : (g : _) (c : In-Some g)
 back g c =
     run-of-one (g.C.Crew.work c.args.crew.now) (g.C.Crew.out c.args.crew.now) (g.C.Crew.out c.next.new.self) c.in-Some.done c.requires.one
     (rw c.in-Some.is at c.in_ok-done.ensures.taken) (rw c.in-Some.is at c.in_ok-done.ensures.run)
+
+-- it does come back
+none-back : (g : _) (c : In-None g) → ⊥
+none-back g c = let none = sym c.requires.one.1 ∙ (rw c.in-None.is at c.in_ok-done.ensures.idle).0 refl in cc none
 
 pub bring-requires : goal.bring-requires
 bring-requires g c =
@@ -21,9 +25,9 @@ bring-requires g c =
     c.args.course.now k.1.sent c.requires.suits (g.C.Crew.work c.args.crew.now) c.in-Some.done c.requires.work (back g at).1
     (g.O.Sink.written c.args.out.now)
 
-pub returns-clause-went : goal.returns-clause-went
-returns-clause-went g c =
-    let at = (goal.at.returns-clause-went g c).In-Some in
+pub returns-in-Some-clause-went : goal.returns-in-Some-clause-went
+returns-in-Some-clause-went g c =
+    let at = (goal.at.returns-in-Some-clause-went g c).In-Some in
     on_ok_weaker c.bring.result
     (λ wrote threads x before sent. alone-went c.args._plan.now threads x before (g.C.Crew.posted c.args.crew.now)
     (g.C.Crew.out c.args.crew.now) c.args.course.now sent c.requires.suits (g.C.Crew.work c.args.crew.now) c.in-Some.done c.requires.work
@@ -31,13 +35,15 @@ returns-clause-went g c =
     c.next.ensures.posted c.bring.ensures.left wrote)
     c.bring.ensures.lines
 
-pub returns-clause-partly : goal.returns-clause-partly
-returns-clause-partly g c threads x before sent =
-    let at = (goal.at.returns-clause-partly g c).In-Some in
+pub returns-in-Some-clause-partly : goal.returns-in-Some-clause-partly
+returns-in-Some-clause-partly g c threads x before sent =
+    let at = (goal.at.returns-in-Some-clause-partly g c).In-Some in
     alone-partly c.args._plan.now threads x before (g.C.Crew.posted c.args.crew.now) (g.C.Crew.out c.args.crew.now) c.args.course.now sent
     c.requires.suits (g.C.Crew.work c.args.crew.now) c.in-Some.done c.requires.work (back g at).1 (g.O.Sink.written c.args.out.now)
     (g.O.Sink.written c.bring.new.out) c.bring.ensures.partly
 
-pub unreachable-requires : goal.unreachable-requires
-unreachable-requires g c =
-    let none = sym c.requires.one.1 ∙ (rw c.in-None.is at c.in_ok-done.ensures.idle).0 refl in cc none
+pub returns-in-None-clause-went : goal.returns-in-None-clause-went
+returns-in-None-clause-went g c = absurd (none-back g ((goal.at.returns-in-None-clause-went g c).In-None))
+
+pub returns-in-None-clause-partly : goal.returns-in-None-clause-partly
+returns-in-None-clause-partly g c threads x before sent = absurd (none-back g ((goal.at.returns-in-None-clause-partly g c).In-None))
