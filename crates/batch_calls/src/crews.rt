@@ -1,4 +1,4 @@
-// What runs over a journal, each by the crew that is asked for.
+// What is requested, carried out; what runs over a journal, by the crew that is asked for.
 ghost use Rattle.std.specs.Prelude.{◌≡◌, ℕ, List, [], All, IfOk};
 ghost use Rattle.subthread.specs.Tasks.{Fits};
 ghost use Rattle.crew.specs.Out.{AreRuns};

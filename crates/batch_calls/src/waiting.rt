@@ -118,8 +118,8 @@ fn carry_waiting<
     requires { MayRun request }
     ensures { Carries request.asked (work_of request) (change_of O.written O.faults out.old out.new) (change_of E.written E.faults err.old err.new) result.status result.journal }
 {
-    match (request.asked.crew, way_of(request.asked.command)) {
-        (CrewKind::Pipe, Way::Journal(output)) => {
+    match way_of(request.asked.command) {
+        Way::Journal(output) if request.asked.crew == CrewKind::Pipe => {
             carry_lasting(rt, alloc, request, output, out, err, gate)
         }
         _ => carry_out(rt, alloc, request, Recheck::once(), out, err, &**gate).0,
