@@ -267,11 +267,6 @@ pub fn carry_out<R: Threads + Sync, O: Sink, E: Sink, G: Gate>(
                 Ok(made) => made,
                 Err(_) => return (unbegun(alloc, err), Recheck::once()),
             };
-            let Plan {
-                asked,
-                checked,
-                begins,
-            } = plan;
             let basis = Basis {
                 plan: &plan,
                 code: &work,
