@@ -187,9 +187,7 @@ fn put_one_rechecked<R: Threads + Sync, O: Sink, G: Gate>(
         code: &work,
         output: Output::Lines,
     };
-    let mut crew = InlineCrew::new(alloc, &work, gate);
-    let put = put_untold(rt, alloc, &basis, begins, &mut crew, out);
-    drop(crew);
+    let put = put_untold(rt, alloc, &basis, begins, out, gate);
     drop(plan);
     let Work { recheck, .. } = work;
     (put, recheck)

@@ -24,9 +24,9 @@ use crate::plan::Begins;
 use crate::texts::OUTPUT;
 use call_cases::{OUT_OF_MEMORY, Outcome, WRITE_FAULT, empty_journal, end_status, end_with};
 use command_line::Soak;
-use crew::Crew;
+use crew::{Crew, InlineCrew};
 use engine::{EngineStop, Report, StopWhy, drive};
-use gp_base::{Journal, NeverSink, Pos, Sink, SinkFault, Text, put_all};
+use gp_base::{Gate, Journal, NeverSink, Pos, Sink, SinkFault, Text, put_all};
 use gp_checkpoint::ckpt_drive;
 use restart_log::{is_soak_text, is_tail_text, soak_text, tail_text, trace_text};
 use std::alloc::{AllocError, Global};
@@ -309,23 +309,24 @@ fn fault_of(why: StopWhy) -> SinkFault
     }
 }
 
-/// Runs what is planned with a crew to which nothing was posted, and writes the text of its run. The answer is the status;
-/// no journal is told.
-pub fn put_untold<R: Threads + Sync, C: Crew, O: Sink>(
+/// Runs what is planned in the calling thread, and writes the text of its run. The answer is the status; no journal is told.
+pub fn put_untold<R: Threads + Sync, O: Sink, G: Gate>(
     rt: &R,
     alloc: Global,
     basis: &Basis,
     begins: Begins,
-    crew: &mut C,
     out: &mut O,
+    gate: &G,
 ) -> Result<u8, SinkFault>
     requires planned { IsPlanned basis.now.plan.now basis.now.code.now begins }
-    requires fresh { IsFresh C.ready C.work C.out C.posted crew.old basis.now.code.now }
     requires lines { WritesLines basis.now.plan.now.asked.command }
     ensures { let work = work_planned basis.now.plan.now begins in
         PutFor (run_text (plain_ran work) (restarts_in work) (length work.faults)) (end_status (plain_ran work).end) (change_of O.written O.faults out.old out.new) result }
 {
-    match put_run(rt, alloc, basis, begins, crew, out) {
+    let mut crew = InlineCrew::new(alloc, basis.code, gate);
+    let ran = put_run(rt, alloc, basis, begins, &mut crew, out);
+    drop(crew);
+    match ran {
         Ok(report) => Ok(end_status(report.end)),
         Err(stop) => Err(fault_of(stop.why)),
     }
