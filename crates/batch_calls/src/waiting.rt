@@ -66,63 +66,81 @@ fn lasting<
     PipeCrew::new(alloc, theirs, work, workers, gate)
 }
 
-// Runs what is requested over a journal by lasting workers.
+// Runs what is planned, whose code is shared so, by lasting workers.
 fn carry_lasting<
-    R: Threads + Wait + Clone + Send + Sync + Drop + 'static,
+    R: Threads + Wait + Clone + Send + Sync + Drop + AllocGlobal + 'static,
     O: Sink,
     E: Sink,
     G: Gate + Send + Drop + 'static,
 >(
     rt: &R,
-    alloc: Global,
-    request: Request,
-    output: Output,
+    work: &Arc<Work>,
+    basis: &Basis,
+    begins: Begins,
     out: &mut O,
     err: &mut E,
     gate: &Arc<G>,
 ) -> Outcome
+    requires work { basis.now.code.now ≡ arc_value work.now }
+    requires planned { IsPlanned basis.now.plan.now basis.now.code.now begins }
+    requires writes { Writes basis.now.plan.now.asked.command basis.now.output }
+    ensures { Carries basis.now.plan.now.asked (work_planned basis.now.plan.now begins) (change_of O.written O.faults out.old out.new) (change_of E.written E.faults err.old err.new) result.status result.journal }
+{
+    let alloc = rt.alloc();
+    match lasting(rt, alloc, work, basis.plan.asked.workers, gate) {
+        Ok(mut crew) => {
+            let outcome = carry_by(rt, alloc, basis, begins, &mut crew, out, err);
+            drop(crew);
+            outcome
+        }
+        Err(_) => {
+            drop(begins);
+            unbegun(alloc, err)
+        }
+    }
+}
+
+// Plans what is requested over a journal, and runs it by lasting workers.
+fn carry_shared<
+    R: Threads + Wait + Clone + Send + Sync + Drop + AllocGlobal + 'static,
+    O: Sink,
+    E: Sink,
+    G: Gate + Send + Drop + 'static,
+>(rt: &R, request: Request, output: Output, out: &mut O, err: &mut E, gate: &Arc<G>) -> Outcome
     requires sound { MayRun request }
     requires writes { Writes request.asked.command output }
     ensures { Carries request.asked (work_of request) (change_of O.written O.faults out.old out.new) (change_of E.written E.faults err.old err.new) result.status result.journal }
 {
+    let alloc = rt.alloc();
     let (work, plan, begins) = match shared_plan_of(alloc, request) {
         Ok(made) => made,
         Err(_) => return unbegun(alloc, err),
-    };
-    let mut crew = match lasting(rt, alloc, &work, plan.asked.workers, gate) {
-        Ok(crew) => crew,
-        Err(_) => {
-            drop(plan);
-            drop(begins);
-            return unbegun(alloc, err);
-        }
     };
     let basis = Basis {
         plan: &plan,
         code: &work,
         output,
     };
-    let outcome = carry_by(rt, alloc, &basis, begins, &mut crew, out, err);
-    drop(crew);
+    let outcome = carry_lasting(rt, &work, &basis, begins, out, err, gate);
     drop(plan);
     outcome
 }
 
 // Does what is requested, by lasting workers where these are asked for.
 fn carry_waiting<
-    R: Threads + Wait + Clone + Send + Sync + Drop + 'static,
+    R: Threads + Wait + Clone + Send + Sync + Drop + AllocGlobal + 'static,
     O: Sink,
     E: Sink,
     G: Gate + Send + Drop + 'static,
->(rt: &R, alloc: Global, request: Request, out: &mut O, err: &mut E, gate: &Arc<G>) -> Outcome
+>(rt: &R, request: Request, out: &mut O, err: &mut E, gate: &Arc<G>) -> Outcome
     requires { MayRun request }
     ensures { Carries request.asked (work_of request) (change_of O.written O.faults out.old out.new) (change_of E.written E.faults err.old err.new) result.status result.journal }
 {
     match way_of(request.asked.command) {
         Way::Journal(output) if request.asked.crew == CrewKind::Pipe => {
-            carry_lasting(rt, alloc, request, output, out, err, gate)
+            carry_shared(rt, request, output, out, err, gate)
         }
-        _ => carry_out(rt, alloc, request, Recheck::once(), out, err, &**gate).0,
+        _ => carry_out(rt, rt.alloc(), request, Recheck::once(), out, err, &**gate).0,
     }
 }
 
@@ -186,7 +204,7 @@ pub fn gprs_run_pipe<
 {
     let alloc = rt.alloc();
     match read_by(alloc, read_waiting_words(alloc, words), shelf) {
-        Ok(request) => carry_waiting(rt, alloc, request, out, err, gate),
+        Ok(request) => carry_waiting(rt, request, out, err, gate),
         Err(refusal) => refused_outcome(alloc, refusal, err),
     }
 }

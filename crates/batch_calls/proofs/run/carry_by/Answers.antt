@@ -7,8 +7,8 @@ use Rattle.batch_calls.specs.inner.Ways.{Writes}
 use Rattle.batch_calls.proofs.Ways.{writes_lines, lines_carried, summary_carried, log_carried}
 use Rattle.batch_calls.proofs.run.carry_by.Goals as goal
 
-pub put_run-ran-requires-lines : goal.put_run-ran-requires-lines
-put_run-ran-requires-lines g c =
+pub put_run-ran-requires-clause-lines : goal.put_run-ran-requires-clause-lines
+put_run-ran-requires-clause-lines g c =
     let asked = c.args.basis.now.plan.now.asked in
     writes_lines asked.command (subst (Writes asked.command) c.in-Lines.is c.requires.writes)
 
@@ -21,8 +21,8 @@ returns-in-Lines g c =
     c.outcome_of.result.status c.outcome_of.result.journal (subst (Writes asked.command) c.in-Lines.is c.requires.writes)
     (c.outcome_of.ensures work (run_text (plain_ran work) (restarts_in work) (length work.faults)) out c.put_run-ran.ensures)
 
-pub put_soak-ran-requires-run : goal.put_soak-ran-requires-run
-put_soak-ran-requires-run g c = subst (Writes c.args.basis.now.plan.now.asked.command) c.in-Summary.is c.requires.writes
+pub put_soak-ran-requires-clause-run : goal.put_soak-ran-requires-clause-run
+put_soak-ran-requires-clause-run g c = subst (Writes c.args.basis.now.plan.now.asked.command) c.in-Summary.is c.requires.writes
 
 pub returns-in-Summary : goal.returns-in-Summary
 returns-in-Summary g c =
@@ -36,8 +36,8 @@ returns-in-Summary g c =
     (c.outcome_of-in-Summary.ensures work (run_soak soak (plain_ran work) (restarts_in work) (length work.faults)) out
     c.put_soak-ran.ensures)
 
-pub put_logged-ran-requires-run : goal.put_logged-ran-requires-run
-put_logged-ran-requires-run g c = subst (Writes c.args.basis.now.plan.now.asked.command) c.in-LinesAndLog.is c.requires.writes
+pub put_logged-ran-requires-clause-run : goal.put_logged-ran-requires-clause-run
+put_logged-ran-requires-clause-run g c = subst (Writes c.args.basis.now.plan.now.asked.command) c.in-LinesAndLog.is c.requires.writes
 
 pub returns-in-LinesAndLog : goal.returns-in-LinesAndLog
 returns-in-LinesAndLog g c =
