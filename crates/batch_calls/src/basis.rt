@@ -14,8 +14,8 @@ pub enum Output {
     LinesAndLog,
 }
 
-/// How a command is carried out: it only checks, it runs a program on one thread, or it runs one over a journal and writes
-/// this.
+/// How a command is carried out: it only checks, it runs a program on one thread, or it runs one over a journal and
+/// writes this.
 #[derive(Clone, Copy)]
 pub enum Way {
     Check,
@@ -23,7 +23,8 @@ pub enum Way {
     Journal(Output),
 }
 
-/// What a run is carried out from, beside what it begins with: its plan, the plan's program as code, and what is written.
+/// What a run is carried out from, beside what it begins with: its plan, the plan's program as code, and what is
+/// written.
 #[derive(Drop)]
 pub struct Basis<'a> {
     pub plan: &'a Plan,

@@ -121,8 +121,8 @@ fn carry_stealing<R: Threads + Sync, O: Sink, E: Sink, G: Gate>(
     carry_by(rt, alloc, basis, begins, &mut crew, out, err)
 }
 
-// Runs what is planned by the crew that is asked for. Lasting workers wait, which this call does not: in their place workers
-// draw from boards.
+// Runs what is planned by the crew that is asked for. Lasting workers wait, which this call does not: in their place
+// workers draw from boards.
 fn carry_by_kind<R: Threads + Sync, O: Sink, E: Sink, G: Gate>(
     rt: &R,
     alloc: Global,
@@ -213,8 +213,8 @@ fn outcome_of_one<E: Sink>(
     }
 }
 
-// Runs a program on one thread, and writes the text of that. Where its subthreads are to be walked twice, it runs over a
-// journal that is not told.
+// Runs a program on one thread, and writes the text of that. Where its subthreads are to be walked twice, it runs
+// over a journal that is not told.
 fn carry_one<R: Threads + Sync, O: Sink, E: Sink, G: Gate>(
     rt: &R,
     alloc: Global,

@@ -52,8 +52,8 @@ fn put_noted<R: Threads + Sync, C: Crew, O: Sink, L: Sink>(
     )
 }
 
-/// Runs what is planned with a crew to which nothing was posted, and writes the first line, the printed lines and the tail, and to `log` a row for each
-/// position that retires.
+/// Runs what is planned with a crew to which nothing was posted, and writes the first line, the printed lines and the
+/// tail, and to `log` a row for each position that retires.
 pub fn put_logged<R: Threads + Sync, C: Crew, O: Sink, L: Sink>(
     rt: &R,
     alloc: Global,

@@ -133,8 +133,8 @@ fn put_summary<O: Sink>(
     put_all(out, summary.as_slice())
 }
 
-// Runs what is planned with a crew to which nothing was posted, and writes the printed lines. The answer is how the run went,
-// or how it stopped.
+// Runs what is planned with a crew to which nothing was posted, and writes the printed lines. The answer is how the
+// run went, or how it stopped.
 fn put_lines<R: Threads + Sync, C: Crew, O: Sink>(
     rt: &R,
     alloc: Global,
@@ -266,9 +266,9 @@ fn outcome_of<E: Sink>(
     }
 }
 
-/// Runs what is planned over a journal with a crew to which nothing was posted, and writes its text, and the trace of its
-/// run where one is asked for. Where the output fails, the line of that is written to `err`. A run whose log is kept writes
-/// nothing but the log to `err`.
+/// Runs what is planned over a journal with a crew to which nothing was posted, and writes its text, and the trace of
+/// its run where one is asked for. Where the output fails, the line of that is written to `err`. A run whose log is
+/// kept writes nothing but the log to `err`.
 pub fn carry_by<R: Threads + Sync, C: Crew, O: Sink, E: Sink>(
     rt: &R,
     alloc: Global,
@@ -309,7 +309,8 @@ fn fault_of(why: StopWhy) -> SinkFault
     }
 }
 
-/// Runs what is planned in the calling thread, and writes the text of its run. The answer is the status; no journal is told.
+/// Runs what is planned in the calling thread, and writes the text of its run. The answer is the status; no journal
+/// is told.
 pub fn put_untold<R: Threads + Sync, O: Sink, G: Gate>(
     rt: &R,
     alloc: Global,

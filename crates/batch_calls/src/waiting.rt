@@ -27,8 +27,8 @@ use std::sync::{Arc, Wait};
 use std::thread::Threads;
 use subthread::{Recheck, Work};
 
-// The code of a request's program, to be shared, the plan of its run, and what that begins with. The error is that memory
-// is out.
+// The code of a request's program, to be shared, the plan of its run, and what that begins with. The error is that
+// memory is out.
 fn shared_plan_of(alloc: Global, request: Request) -> Result<(Arc<Work>, Plan, Begins), AllocError>
     requires { IsSound request.asked (plain_program (program_of request.checked)) request.inputs }
     ensures plan { IfOk result (λ made. IsPlanned made.1 (arc_value made.0) made.2) }
