@@ -19,7 +19,7 @@ use Rattle.call_cases.specs.meaning.Headline.{Call, Headline, ReadsNothing}
 use Rattle.call_cases.specs.meaning.RunCommands.{MayRead}
 use Rattle.call_cases.specs.meaning.RunCommands as gprs
 use Rattle.call_cases.specs.Answers.{unwritten}
-use Rattle.call_cases.specs.Decided.{MayRun, case_of, program_in, files_read, work_of}
+use Rattle.call_cases.specs.Decided.{case_of, program_in, files_read, work_of}
 use Rattle.call_cases.specs.Refusals.{AnswersCase, TouchesShelf, RefusalEnds}
 use Rattle.call_cases.proofs.Answering.{answers_map, asked_case, same_case, usage_case}
 use Rattle.call_cases.proofs.Headlines.{run_headline, log_headline, refused_headline}
@@ -49,7 +49,6 @@ module _ (reading : List (List ℕ) → Option Asked) (words : List (List ℕ)) 
     unread = λ _. same;
     shelf = (none, refl);
     case = usage_case (asking_by reading) words files none;
-    sound = tt;
     asked = tt;
   }
 
@@ -60,7 +59,6 @@ module _ (reading : List (List ℕ) → Option Asked) (words : List (List ℕ)) 
     unread = λ _. same;
     shelf = tt;
     case = nothing files;
-    sound = tt;
     asked = tt;
   }
     where
@@ -73,14 +71,13 @@ module _ (reading : List (List ℕ) → Option Asked) (words : List (List ℕ)) 
       → reading words ≡ Some asked
       → (makes_files asked.command ≡ true → kept) → TouchesShelf MayRead (Some asked) failed failed' result
       → IfSome files (λ told. AnswersCase case_of (IsCaseOf gprs.asking asked (gprs.asking.files asked told)) result)
-      → IfOk result MayRun → IfOk result (λ request. request.asked ≡ asked)
+      → IfOk result (λ request. request.asked ≡ asked)
       → Answers reading words files failed failed' kept result
-  answers_asked failed failed' kept asked result some unread shelf case sound same = record {
+  answers_asked failed failed' kept asked result some unread shelf case same = record {
     no_command = λ none. absurd (let both : Some asked ≡ None = sym some ∙ none in cc);
     unread = λ nothing. unread (subst (ReadsNothing gprs.commands) some nothing);
     shelf = subst (λ a. TouchesShelf MayRead a failed failed' result) (sym some) shelf;
     case = asked_case (asking_by reading) words case_of files asked result some (same_answer reading files asked result case);
-    sound = sound;
     asked = go result same;
   }
     where

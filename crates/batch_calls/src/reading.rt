@@ -2,6 +2,7 @@
 ghost use Rattle.std.specs.Prelude.{◌≡◌, ℕ, List, Option, IfOk, IfSome};
 ghost use Rattle.command_line.specs.Words.{IsWithinLimits};
 ghost use Rattle.command_line.specs.declared.asked.Asked.{Asked};
+ghost use Rattle.call_cases.specs.Decided.{MayRun};
 ghost use Rattle.batch_calls.specs.inner.Reading.{Answers};
 
 use call_cases::{Refusal, Request, read_for};
@@ -17,7 +18,8 @@ pub fn read_by<H: Shelf>(
     shelf: &mut H,
 ) -> Result<Request, Refusal>
     requires { IfOk read (λ asked. IfSome asked IsWithinLimits) }
-    ensures { (reading : List (List ℕ) → Option Asked) (words : List (List ℕ)) → IfOk read (λ asked. asked ≡ reading words) →
+    ensures sound { IfOk result MayRun }
+    ensures answers { (reading : List (List ℕ) → Option Asked) (words : List (List ℕ)) → IfOk read (λ asked. asked ≡ reading words) →
         Answers reading words (H.files shelf.old) (H.failed shelf.old) (H.failed shelf.new) (shelf.new ≡ shelf.old) result }
 {
     match read {

@@ -10,7 +10,7 @@ use Rattle.call_cases.specs.meaning.Commands.{Asking}
 use Rattle.call_cases.specs.meaning.Headline.{ReadsNothing}
 use Rattle.call_cases.specs.meaning.RunCommands.{MayRead}
 use Rattle.call_cases.specs.meaning.RunCommands as gprs
-use Rattle.call_cases.specs.Decided.{MayRun, case_of}
+use Rattle.call_cases.specs.Decided.{case_of}
 use Rattle.call_cases.specs.Refusals.{AnswersCase, AnswersNoCommand, TouchesShelf}
 
 -- what words ask for that are read so, and what that comes to by the files
@@ -25,5 +25,4 @@ pub record Answers (reading : List (List ℕ) → Option Asked) (words : List (L
   pub unread : ReadsNothing gprs.commands (reading words) → kept
   pub shelf : TouchesShelf MayRead (reading words) failed failed' result
   pub case : IfSome files (λ files. AnswersCase case_of (IsCase (asking_by reading) words files) result)
-  pub sound : IfOk result MayRun
   pub asked : IfOk result (λ request. reading words ≡ Some request.asked)

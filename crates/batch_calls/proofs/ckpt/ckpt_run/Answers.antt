@@ -16,7 +16,7 @@ returns-in-Ok-clause-headline g c =
     (change_of g.O.Sink.written g.O.Sink.faults c.args.out.now c.carry_out.new.out)
     (change_of g.E.Sink.written g.E.Sink.faults c.args.err.now c.carry_out.new.err)
     c.carry_out.result.0.status c.carry_out.result.0.journal c.in-Ok.request
-    (c.in-Ok.ensures ckpt_by words c.read_ckpt_words.ensures.asked) c.carry_out.ensures (ckpt_keeps_none words)
+    (c.in-Ok.ensures.answers ckpt_by words c.read_ckpt_words.ensures.asked) c.carry_out.ensures (ckpt_keeps_none words)
 
 pub returns-in-Err-clause-headline : goal.returns-in-Err-clause-headline
 returns-in-Err-clause-headline g c =
@@ -26,13 +26,13 @@ returns-in-Err-clause-headline g c =
     (g.O.Sink.written c.args.out.now) (g.O.Sink.faults c.args.out.now)
     (change_of g.E.Sink.written g.E.Sink.faults c.args.err.now c.refused_outcome.new.err)
     c.refused_outcome.result.status c.refused_outcome.result.journal c.in-Err.refusal
-    (c.in-Err.ensures ckpt_by words c.read_ckpt_words.ensures.asked) (ap g.H.Shelf.failed) c.refused_outcome.ensures.empty
+    (c.in-Err.ensures.answers ckpt_by words c.read_ckpt_words.ensures.asked) (ap g.H.Shelf.failed) c.refused_outcome.ensures.empty
     c.refused_outcome.ensures.ends
 
 pub returns-in-Ok-clause-unread : goal.returns-in-Ok-clause-unread
 returns-in-Ok-clause-unread g c = λ none.
-    (c.in-Ok.ensures ckpt_by (texts c.args.words.now) c.read_ckpt_words.ensures.asked).unread (subst (ReadsNothing commands) (sym none) tt)
+    (c.in-Ok.ensures.answers ckpt_by (texts c.args.words.now) c.read_ckpt_words.ensures.asked).unread (subst (ReadsNothing commands) (sym none) tt)
 
 pub returns-in-Err-clause-unread : goal.returns-in-Err-clause-unread
 returns-in-Err-clause-unread g c = λ none.
-    (c.in-Err.ensures ckpt_by (texts c.args.words.now) c.read_ckpt_words.ensures.asked).unread (subst (ReadsNothing commands) (sym none) tt)
+    (c.in-Err.ensures.answers ckpt_by (texts c.args.words.now) c.read_ckpt_words.ensures.asked).unread (subst (ReadsNothing commands) (sym none) tt)

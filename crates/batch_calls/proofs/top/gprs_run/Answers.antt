@@ -19,7 +19,6 @@ returns-in-Ok-clause-headline g c =
       unread = read.unread;
       shelf = read.shelf;
       case = read.case;
-      sound = read.sound;
       asked = read.asked;
     } in
     run_headed asked_by words files failed failed' kept
@@ -40,7 +39,6 @@ returns-in-Err-clause-headline g c =
       unread = read.unread;
       shelf = read.shelf;
       case = read.case;
-      sound = read.sound;
       asked = read.asked;
     } in
     run_refused asked_by words files failed failed' kept (g.O.Sink.written c.args.out.now) (g.O.Sink.faults c.args.out.now)
