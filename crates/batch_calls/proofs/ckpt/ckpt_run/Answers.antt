@@ -31,8 +31,10 @@ returns-in-Err-clause-headline g c =
 
 pub returns-in-Ok-clause-unread : goal.returns-in-Ok-clause-unread
 returns-in-Ok-clause-unread g c = λ none.
-    (c.in-Ok.ensures.answers ckpt_by (texts c.args.words.now) c.read_ckpt_words.ensures.asked).unread (subst (ReadsNothing commands) (sym none) tt)
+    (c.in-Ok.ensures.answers ckpt_by (texts c.args.words.now) c.read_ckpt_words.ensures.asked).unread
+    (subst (ReadsNothing commands) (sym none) tt)
 
 pub returns-in-Err-clause-unread : goal.returns-in-Err-clause-unread
 returns-in-Err-clause-unread g c = λ none.
-    (c.in-Err.ensures.answers ckpt_by (texts c.args.words.now) c.read_ckpt_words.ensures.asked).unread (subst (ReadsNothing commands) (sym none) tt)
+    (c.in-Err.ensures.answers ckpt_by (texts c.args.words.now) c.read_ckpt_words.ensures.asked).unread
+    (subst (ReadsNothing commands) (sym none) tt)

@@ -22,7 +22,8 @@ returns-in-Lines g c =
     (c.outcome_of.ensures work (run_text (plain_ran work) (restarts_in work) (length work.faults)) out c.put_run-ran.ensures)
 
 pub put_soak-ran-requires-clause-run : goal.put_soak-ran-requires-clause-run
-put_soak-ran-requires-clause-run g c lifetimes within = subst (Writes c.args.basis.now.plan.now.asked.command) c.in-Summary.is c.requires.writes
+put_soak-ran-requires-clause-run g c lifetimes within =
+    subst (Writes c.args.basis.now.plan.now.asked.command) c.in-Summary.is c.requires.writes
 
 pub returns-in-Summary : goal.returns-in-Summary
 returns-in-Summary g c =
@@ -37,7 +38,8 @@ returns-in-Summary g c =
     c.put_soak-ran.ensures)
 
 pub put_logged-ran-requires-clause-run : goal.put_logged-ran-requires-clause-run
-put_logged-ran-requires-clause-run g c lifetimes within = subst (Writes c.args.basis.now.plan.now.asked.command) c.in-LinesAndLog.is c.requires.writes
+put_logged-ran-requires-clause-run g c lifetimes within =
+    subst (Writes c.args.basis.now.plan.now.asked.command) c.in-LinesAndLog.is c.requires.writes
 
 pub returns-in-LinesAndLog : goal.returns-in-LinesAndLog
 returns-in-LinesAndLog g c =

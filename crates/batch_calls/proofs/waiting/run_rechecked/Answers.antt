@@ -27,7 +27,9 @@ returns-in-Err-clause-headline g c =
     c.refused_outcome.ensures.ends
 
 pub returns-in-Ok-clause-unread : goal.returns-in-Ok-clause-unread
-returns-in-Ok-clause-unread g c = (c.in-Ok.ensures.answers asked_waiting (texts c.args.words.now) c.read_waiting_words.ensures.asked).unread
+returns-in-Ok-clause-unread g c =
+    (c.in-Ok.ensures.answers asked_waiting (texts c.args.words.now) c.read_waiting_words.ensures.asked).unread
 
 pub returns-in-Err-clause-unread : goal.returns-in-Err-clause-unread
-returns-in-Err-clause-unread g c = (c.in-Err.ensures.answers asked_waiting (texts c.args.words.now) c.read_waiting_words.ensures.asked).unread
+returns-in-Err-clause-unread g c =
+    (c.in-Err.ensures.answers asked_waiting (texts c.args.words.now) c.read_waiting_words.ensures.asked).unread
