@@ -1,4 +1,4 @@
-pub mod AskedOtherwise
+pub mod Answered
 pub mod LoggedEnds
 pub mod LoggedPieces
 pub mod PlainTexts
@@ -6,3 +6,4 @@ pub mod RanPieces
 pub mod RunEnds
 pub mod RunPieces
 pub mod Untold
+pub mod Ways

@@ -1,5 +1,8 @@
 -- What describes parts of the crate alone.
+pub mod Fresh
 pub mod Logged
 pub mod Planned
 pub mod Ran
+pub mod Reading
 pub mod Steps
+pub mod Ways

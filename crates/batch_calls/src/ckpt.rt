@@ -1,38 +1,18 @@
 // The top call that runs by checkpoints.
-ghost use Rattle.std.specs.Prelude.{◌≡◌, Some, None, IfOk, IfSome};
+ghost use Rattle.std.specs.Prelude.{◌≡◌, None};
 ghost use Rattle.command_line.specs.meaning.Words.{texts};
 ghost use Rattle.command_line.specs.meaning.CkptWords.{ckpt_by};
 ghost use Rattle.call_cases.specs.meaning.Answers.{change_of};
-ghost use Rattle.call_cases.specs.meaning.Case.{IsCase};
-ghost use Rattle.call_cases.specs.Decided.{MayRun, case_of};
-ghost use Rattle.call_cases.specs.meaning.Headline.{Headline, ReadsNothing};
-ghost use Rattle.call_cases.specs.Refusals.{AnswersCase, AnswersNoCommand, TouchesShelf};
-ghost use Rattle.call_cases.specs.meaning.RunCommands.{MayRead};
-ghost use Rattle.batch_calls.specs.meaning.CkptCommands.{asking, commands};
+ghost use Rattle.call_cases.specs.meaning.Headline.{Headline};
+ghost use Rattle.batch_calls.specs.meaning.CkptCommands.{commands};
 
 use crate::crews::carry_out;
-use call_cases::{Outcome, Refusal, Request, read_for, refused_outcome};
+use crate::reading::read_by;
+use call_cases::{Outcome, refused_outcome};
 use command_line::read_ckpt_words;
 use gp_base::{Gate, Shelf, Sink};
-use std::alloc::Global;
 use std::thread::Threads;
-
-// What the words ask for, as `read_request` reads it, where they are those of `ckpt`.
-fn read_ckpt<H: Shelf>(alloc: Global, words: &[String], shelf: &mut H) -> Result<Request, Refusal>
-    ensures no_command { ckpt_by (texts words.now) ≡ None → AnswersNoCommand result }
-    ensures unread { ReadsNothing commands (ckpt_by (texts words.now)) → shelf.new ≡ shelf.old }
-    ensures shelf { TouchesShelf MayRead (ckpt_by (texts words.now)) (H.failed shelf.old) (H.failed shelf.new) result }
-    ensures case { IfSome (H.files shelf.old) (λ files. AnswersCase case_of (IsCase asking (texts words.now) files) result) }
-    ensures sound { IfOk result MayRun }
-    ensures asked { IfOk result (λ request. ckpt_by (texts words.now) ≡ Some request.asked) }
-{
-    let asked = match read_ckpt_words(alloc, words) {
-        Ok(Some(asked)) => asked,
-        Ok(None) => return Err(Refusal::Usage),
-        Err(_) => return Err(Refusal::OutOfMemory),
-    };
-    read_for(alloc, asked, shelf)
-}
+use subthread::Recheck;
 
 /// Runs the program that the words of `ckpt` name, over what is handed in, as `gprs_run` runs one by `run`, but by
 /// checkpoints: a fault rolls back all from the checkpoint on that comes before what it strikes. So the text has the
@@ -64,8 +44,8 @@ pub fn ckpt_run<R: Threads + Sync + AllocGlobal, H: Shelf, O: Sink, E: Sink, G: 
     ensures unread { ckpt_by (texts words.now) ≡ None → shelf.new ≡ shelf.old }
 {
     let alloc = rt.alloc();
-    match read_ckpt(alloc, words, shelf) {
-        Ok(request) => carry_out(rt, alloc, request, out, err, gate),
+    match read_by(alloc, read_ckpt_words(alloc, words), shelf) {
+        Ok(request) => carry_out(rt, alloc, request, Recheck::once(), out, err, gate).0,
         Err(refusal) => refused_outcome(alloc, refusal, err),
     }
 }

@@ -1,5 +1,5 @@
-// What runs over a journal, each by the crew that is asked for.
-ghost use Rattle.std.specs.Prelude.{◌≡◌, ℕ, true, false, List, [], All, IfOk};
+// What is requested, carried out; what runs over a journal, by the crew that is asked for.
+ghost use Rattle.std.specs.Prelude.{◌≡◌, ℕ, List, [], All, IfOk};
 ghost use Rattle.subthread.specs.Tasks.{Fits};
 ghost use Rattle.crew.specs.Out.{AreRuns};
 ghost use Rattle.steal_crew.specs.Batches.{AreCounted};
@@ -7,14 +7,16 @@ ghost use Rattle.call_cases.specs.meaning.Answers.{Change, IsEmpty, change_of};
 ghost use Rattle.call_cases.specs.Decided.{MayRun, work_of};
 ghost use Rattle.call_cases.specs.Answers.{PutFor, RunEnds};
 ghost use Rattle.call_cases.specs.meaning.RunCommands.{work_text, work_status};
-ghost use Rattle.call_cases.specs.meaning.Work.{is_journalled};
 ghost use Rattle.command_line.specs.declared.asked.Command.TheVariants as command;
-ghost use Rattle.batch_calls.specs.inner.Planned.{IsPlanOf, Carries, work_planned, without_faults};
+ghost use Rattle.batch_calls.specs.inner.Planned.{IsPlanned, Carries, work_planned, without_faults};
+ghost use Rattle.batch_calls.specs.inner.Ways.{Writes};
 
-use crate::plan::{Plan, plan_of};
-use crate::run::{carry_by, is_journalled, put_plain, put_untold, unbegun};
+use crate::basis::{Basis, Output, Way, way_of};
+use crate::plain::{put_ok, put_one};
+use crate::plan::{Begins, plan_of};
+use crate::run::{carry_by, put_untold, unbegun};
 use call_cases::{Outcome, Request, empty_journal, plain_outcome};
-use command_line::{Command, CrewKind};
+use command_line::CrewKind;
 use crew::{BatchCrew, InlineCrew, MeanSteps, run_wave};
 use gp_base::{Faults, Gate, Seq, Sink, SinkFault};
 use pipe_crew::run_board;
@@ -23,63 +25,65 @@ use std::thread::Threads;
 use steal_crew::{StealCrew, run_steal};
 use subthread::{Done, Recheck, Task, Work};
 
-// Runs a plan in the calling thread.
+// Runs what is planned in the calling thread.
 fn carry_inline<R: Threads + Sync, O: Sink, E: Sink, G: Gate>(
     rt: &R,
     alloc: Global,
-    work: &Work,
-    plan: Plan,
+    basis: &Basis,
+    begins: Begins,
     out: &mut O,
     err: &mut E,
     gate: &G,
 ) -> Outcome
-    requires planned { IsPlanOf work.now plan }
-    requires run { is_journalled plan.asked.command ≡ true }
-    ensures { Carries plan.asked (work_planned plan) (change_of O.written O.faults out.old out.new) (change_of E.written E.faults err.old err.new) result.status result.journal }
+    requires planned { IsPlanned basis.now.plan.now basis.now.code.now begins }
+    requires writes { Writes basis.now.plan.now.asked.command basis.now.output }
+    ensures { Carries basis.now.plan.now.asked (work_planned basis.now.plan.now begins) (change_of O.written O.faults out.old out.new) (change_of E.written E.faults err.old err.new) result.status result.journal }
 {
-    let mut crew = InlineCrew::new(alloc, work, gate);
-    carry_by(rt, alloc, work, plan, &mut crew, out, err)
+    let mut crew = InlineCrew::new(alloc, basis.code, gate);
+    carry_by(rt, alloc, basis, begins, &mut crew, out, err)
 }
 
-// Runs a plan by waves of workers.
+// Runs what is planned by waves of workers.
 fn carry_waves<R: Threads + Sync, O: Sink, E: Sink, G: Gate>(
     rt: &R,
     alloc: Global,
-    work: &Work,
-    plan: Plan,
+    basis: &Basis,
+    begins: Begins,
     out: &mut O,
     err: &mut E,
     gate: &G,
 ) -> Outcome
-    requires planned { IsPlanOf work.now plan }
-    requires run { is_journalled plan.asked.command ≡ true }
-    ensures { Carries plan.asked (work_planned plan) (change_of O.written O.faults out.old out.new) (change_of E.written E.faults err.old err.new) result.status result.journal }
+    requires planned { IsPlanned basis.now.plan.now basis.now.code.now begins }
+    requires writes { Writes basis.now.plan.now.asked.command basis.now.output }
+    ensures { Carries basis.now.plan.now.asked (work_planned basis.now.plan.now begins) (change_of O.written O.faults out.old out.new) (change_of E.written E.faults err.old err.new) result.status result.journal }
 {
-    let workers = plan.asked.workers;
+    let work = basis.code;
+    let workers = basis.plan.asked.workers;
     let mean_steps = MeanSteps::new(alloc, work);
     let run_all = |tasks: Seq<Task>| -> Result<Seq<Done>, AllocError>
         requires { All (Fits work.now) tasks }
         ensures { IfOk result (AreRuns work.entry.now tasks) }
     { run_wave(rt, alloc, work, gate, &mean_steps, workers, tasks) };
     let mut crew = BatchCrew::new(alloc, work, run_all);
-    carry_by(rt, alloc, work, plan, &mut crew, out, err)
+    carry_by(rt, alloc, basis, begins, &mut crew, out, err)
 }
 
-// Runs a plan by workers that draw from boards.
+// Runs what is planned by workers that draw from boards.
 fn carry_boards<R: Threads + Sync, O: Sink, E: Sink, G: Gate>(
     rt: &R,
     alloc: Global,
-    work: &Work,
-    plan: Plan,
+    basis: &Basis,
+    begins: Begins,
     out: &mut O,
     err: &mut E,
     gate: &G,
 ) -> Outcome
-    requires planned { IsPlanOf work.now plan }
-    requires run { is_journalled plan.asked.command ≡ true }
-    ensures { Carries plan.asked (work_planned plan) (change_of O.written O.faults out.old out.new) (change_of E.written E.faults err.old err.new) result.status result.journal }
+    requires planned { IsPlanned basis.now.plan.now basis.now.code.now begins }
+    requires writes { Writes basis.now.plan.now.asked.command basis.now.output }
+    ensures { Carries basis.now.plan.now.asked (work_planned basis.now.plan.now begins) (change_of O.written O.faults out.old out.new) (change_of E.written E.faults err.old err.new) result.status result.journal }
 {
-    let workers = plan.asked.workers;
+    let work = basis.code;
+    let workers = basis.plan.asked.workers;
     let mean_steps = MeanSteps::new(alloc, work);
     let run_all = |tasks: Seq<Task>| -> Result<Seq<Done>, AllocError>
         requires { All (Fits work.now) tasks }
@@ -89,53 +93,54 @@ fn carry_boards<R: Threads + Sync, O: Sink, E: Sink, G: Gate>(
         Ok(runs)
     };
     let mut crew = BatchCrew::new(alloc, work, run_all);
-    carry_by(rt, alloc, work, plan, &mut crew, out, err)
+    carry_by(rt, alloc, basis, begins, &mut crew, out, err)
 }
 
-// Runs a plan by workers that steal from one another.
+// Runs what is planned by workers that steal from one another.
 fn carry_stealing<R: Threads + Sync, O: Sink, E: Sink, G: Gate>(
     rt: &R,
     alloc: Global,
-    work: &Work,
-    plan: Plan,
+    basis: &Basis,
+    begins: Begins,
     out: &mut O,
     err: &mut E,
     gate: &G,
 ) -> Outcome
-    requires planned { IsPlanOf work.now plan }
-    requires run { is_journalled plan.asked.command ≡ true }
-    ensures { Carries plan.asked (work_planned plan) (change_of O.written O.faults out.old out.new) (change_of E.written E.faults err.old err.new) result.status result.journal }
+    requires planned { IsPlanned basis.now.plan.now basis.now.code.now begins }
+    requires writes { Writes basis.now.plan.now.asked.command basis.now.output }
+    ensures { Carries basis.now.plan.now.asked (work_planned basis.now.plan.now begins) (change_of O.written O.faults out.old out.new) (change_of E.written E.faults err.old err.new) result.status result.journal }
 {
-    let workers = plan.asked.workers;
+    let work = basis.code;
+    let workers = basis.plan.asked.workers;
     let mean_steps = MeanSteps::new(alloc, work);
     let run_all = |tasks: Seq<Task>| -> Result<(Seq<Done>, (u64, u64, u64)), AllocError>
         requires { All (Fits work.now) tasks }
         ensures { IfOk result (AreCounted work.entry.now tasks) }
     { run_steal(rt, alloc, work, gate, &mean_steps, workers, tasks) };
     let mut crew = StealCrew::new(alloc, work, run_all);
-    carry_by(rt, alloc, work, plan, &mut crew, out, err)
+    carry_by(rt, alloc, basis, begins, &mut crew, out, err)
 }
 
-// Runs a plan by the crew that is asked for. Lasting workers wait, which this call does not: in their place workers
-// draw from boards.
+// Runs what is planned by the crew that is asked for. Lasting workers wait, which this call does not: in their place
+// workers draw from boards.
 fn carry_by_kind<R: Threads + Sync, O: Sink, E: Sink, G: Gate>(
     rt: &R,
     alloc: Global,
-    work: &Work,
-    plan: Plan,
+    basis: &Basis,
+    begins: Begins,
     out: &mut O,
     err: &mut E,
     gate: &G,
 ) -> Outcome
-    requires planned { IsPlanOf work.now plan }
-    requires run { is_journalled plan.asked.command ≡ true }
-    ensures { Carries plan.asked (work_planned plan) (change_of O.written O.faults out.old out.new) (change_of E.written E.faults err.old err.new) result.status result.journal }
+    requires planned { IsPlanned basis.now.plan.now basis.now.code.now begins }
+    requires writes { Writes basis.now.plan.now.asked.command basis.now.output }
+    ensures { Carries basis.now.plan.now.asked (work_planned basis.now.plan.now begins) (change_of O.written O.faults out.old out.new) (change_of E.written E.faults err.old err.new) result.status result.journal }
 {
-    match plan.asked.crew {
-        CrewKind::One => carry_inline(rt, alloc, work, plan, out, err, gate),
-        CrewKind::Wave => carry_waves(rt, alloc, work, plan, out, err, gate),
-        CrewKind::Steal => carry_stealing(rt, alloc, work, plan, out, err, gate),
-        CrewKind::Board | CrewKind::Pipe => carry_boards(rt, alloc, work, plan, out, err, gate),
+    match basis.plan.asked.crew {
+        CrewKind::One => carry_inline(rt, alloc, basis, begins, out, err, gate),
+        CrewKind::Wave => carry_waves(rt, alloc, basis, begins, out, err, gate),
+        CrewKind::Steal => carry_stealing(rt, alloc, basis, begins, out, err, gate),
+        CrewKind::Board | CrewKind::Pipe => carry_boards(rt, alloc, basis, begins, out, err, gate),
     }
 }
 
@@ -173,13 +178,17 @@ fn put_one_rechecked<R: Threads + Sync, O: Sink, G: Gate>(
     requires run { request.asked.command ≡ command.One }
     ensures { PutFor (work_text command.One (work_of request)) (work_status command.One (work_of request)) (change_of O.written O.faults out.old out.new) result.0 }
 {
-    let (work, plan) = match plan_of(alloc, without_faults(alloc, request), recheck) {
+    let (work, plan, begins) = match plan_of(alloc, without_faults(alloc, request), recheck) {
         Ok(made) => made,
         Err(_) => return (Err(SinkFault::OutOfMemory), Recheck::once()),
     };
-    let mut crew = InlineCrew::new(alloc, &work, gate);
-    let put = put_untold(rt, alloc, &work, plan, &mut crew, out);
-    drop(crew);
+    let basis = Basis {
+        plan: &plan,
+        code: &work,
+        output: Output::Lines,
+    };
+    let put = put_untold(rt, alloc, &basis, begins, out, gate);
+    drop(plan);
     let Work { recheck, .. } = work;
     (put, recheck)
 }
@@ -204,7 +213,8 @@ fn outcome_of_one<E: Sink>(
     }
 }
 
-// Runs a program on one thread by subthreads that are walked twice, over a journal that is not told.
+// Runs a program on one thread, and writes the text of that. Where its subthreads are to be walked twice, it runs
+// over a journal that is not told.
 fn carry_one<R: Threads + Sync, O: Sink, E: Sink, G: Gate>(
     rt: &R,
     alloc: Global,
@@ -218,31 +228,13 @@ fn carry_one<R: Threads + Sync, O: Sink, E: Sink, G: Gate>(
     requires run { request.asked.command ≡ command.One }
     ensures { Carries request.asked (work_of request) (change_of O.written O.faults out.old out.new) (change_of E.written E.faults err.old err.new) result.0.status result.0.journal }
 {
+    if !recheck.is_on() {
+        let put = put_one(alloc, &request, out);
+        drop(request);
+        return (plain_outcome(alloc, put, err), recheck);
+    }
     let (put, recheck) = put_one_rechecked(rt, alloc, request, recheck, out, gate);
     let outcome = outcome_of_one(alloc, &recheck, put, err);
-    (outcome, recheck)
-}
-
-// Does what is requested that runs over no journal. The run of a program on one thread is one over a journal that is
-// not told, where its subthreads are to be walked twice.
-fn carry_plain<R: Threads + Sync, O: Sink, E: Sink, G: Gate>(
-    rt: &R,
-    alloc: Global,
-    request: Request,
-    recheck: Recheck,
-    out: &mut O,
-    err: &mut E,
-    gate: &G,
-) -> (Outcome, Recheck)
-    requires sound { MayRun request }
-    requires run { is_journalled request.asked.command ≡ false }
-    ensures { Carries request.asked (work_of request) (change_of O.written O.faults out.old out.new) (change_of E.written E.faults err.old err.new) result.0.status result.0.journal }
-{
-    if recheck.is_on() && matches!(request.asked.command, Command::One) {
-        return carry_one(rt, alloc, request, recheck, out, err, gate);
-    }
-    let outcome = put_plain(alloc, &request, out, err);
-    drop(request);
     (outcome, recheck)
 }
 
@@ -250,7 +242,7 @@ fn carry_plain<R: Threads + Sync, O: Sink, E: Sink, G: Gate>(
 /// walked as the recheck says, which comes back with what was seen, or as a new one where no run began. Where the output
 /// fails, the line of that is written to `err`. Lasting workers wait, which this call does not: in their place workers
 /// draw from boards.
-pub fn carry_rechecked<R: Threads + Sync, O: Sink, E: Sink, G: Gate>(
+pub fn carry_out<R: Threads + Sync, O: Sink, E: Sink, G: Gate>(
     rt: &R,
     alloc: Global,
     request: Request,
@@ -262,29 +254,26 @@ pub fn carry_rechecked<R: Threads + Sync, O: Sink, E: Sink, G: Gate>(
     requires { MayRun request }
     ensures { Carries request.asked (work_of request) (change_of O.written O.faults out.old out.new) (change_of E.written E.faults err.old err.new) result.0.status result.0.journal }
 {
-    if !is_journalled(request.asked.command) {
-        return carry_plain(rt, alloc, request, recheck, out, err, gate);
+    match way_of(request.asked.command) {
+        Way::Check => {
+            drop(request);
+            (plain_outcome(alloc, put_ok(out), err), recheck)
+        }
+        Way::One => carry_one(rt, alloc, request, recheck, out, err, gate),
+        Way::Journal(output) => {
+            let (work, plan, begins) = match plan_of(alloc, request, recheck) {
+                Ok(made) => made,
+                Err(_) => return (unbegun(alloc, err), Recheck::once()),
+            };
+            let basis = Basis {
+                plan: &plan,
+                code: &work,
+                output,
+            };
+            let outcome = carry_by_kind(rt, alloc, &basis, begins, out, err, gate);
+            drop(plan);
+            let Work { recheck, .. } = work;
+            (outcome, recheck)
+        }
     }
-    let (work, plan) = match plan_of(alloc, request, recheck) {
-        Ok(made) => made,
-        Err(_) => return (unbegun(alloc, err), Recheck::once()),
-    };
-    let outcome = carry_by_kind(rt, alloc, &work, plan, out, err, gate);
-    let Work { recheck, .. } = work;
-    (outcome, recheck)
-}
-
-/// Does what is requested, as `carry_rechecked` does, with each subthread walked once.
-pub fn carry_out<R: Threads + Sync, O: Sink, E: Sink, G: Gate>(
-    rt: &R,
-    alloc: Global,
-    request: Request,
-    out: &mut O,
-    err: &mut E,
-    gate: &G,
-) -> Outcome
-    requires { MayRun request }
-    ensures { Carries request.asked (work_of request) (change_of O.written O.faults out.old out.new) (change_of E.written E.faults err.old err.new) result.status result.journal }
-{
-    carry_rechecked(rt, alloc, request, Recheck::once(), out, err, gate).0
 }

@@ -2,12 +2,14 @@
 //! handed in.
 #![tactic(auto)]
 
+mod basis;
 mod ckpt;
 mod crews;
 mod log;
 mod logged;
 mod plain;
 pub mod plan;
+mod reading;
 mod run;
 mod texts;
 mod top;

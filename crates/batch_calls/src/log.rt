@@ -1,39 +1,18 @@
 // The top call that keeps a log of its run.
-ghost use Rattle.std.specs.Prelude.{◌≡◌, Some, None, IfOk, IfSome};
+ghost use Rattle.std.specs.Prelude.{◌≡◌, None};
 ghost use Rattle.command_line.specs.meaning.Words.{texts};
 ghost use Rattle.command_line.specs.meaning.LogWords.{log_by};
 ghost use Rattle.call_cases.specs.meaning.Answers.{change_of};
-ghost use Rattle.call_cases.specs.meaning.Case.{IsCase};
-ghost use Rattle.call_cases.specs.Decided.{MayRun, case_of};
-ghost use Rattle.call_cases.specs.meaning.Headline.{Headline, ReadsNothing};
-ghost use Rattle.call_cases.specs.Refusals.{AnswersCase, AnswersNoCommand, TouchesShelf};
-ghost use Rattle.call_cases.specs.meaning.RunCommands.{MayRead};
-ghost use Rattle.batch_calls.specs.meaning.LogCommands.{asking, commands};
+ghost use Rattle.call_cases.specs.meaning.Headline.{Headline};
+ghost use Rattle.batch_calls.specs.meaning.LogCommands.{commands};
 
-use crate::crews::carry_rechecked;
-use call_cases::{Outcome, Refusal, Request, read_for, refused_outcome};
+use crate::crews::carry_out;
+use crate::reading::read_by;
+use call_cases::{Outcome, refused_outcome};
 use command_line::read_log_words;
 use gp_base::{Gate, Shelf, Sink};
-use std::alloc::Global;
 use std::thread::Threads;
 use subthread::Recheck;
-
-// What the words ask for, as `read_request` reads it, where they are those of `log`.
-fn read_log<H: Shelf>(alloc: Global, words: &[String], shelf: &mut H) -> Result<Request, Refusal>
-    ensures no_command { log_by (texts words.now) ≡ None → AnswersNoCommand result }
-    ensures unread { ReadsNothing commands (log_by (texts words.now)) → shelf.new ≡ shelf.old }
-    ensures shelf { TouchesShelf MayRead (log_by (texts words.now)) (H.failed shelf.old) (H.failed shelf.new) result }
-    ensures case { IfSome (H.files shelf.old) (λ files. AnswersCase case_of (IsCase asking (texts words.now) files) result) }
-    ensures sound { IfOk result MayRun }
-    ensures asked { IfOk result (λ request. log_by (texts words.now) ≡ Some request.asked) }
-{
-    let asked = match read_log_words(alloc, words) {
-        Ok(Some(asked)) => asked,
-        Ok(None) => return Err(Refusal::Usage),
-        Err(_) => return Err(Refusal::OutOfMemory),
-    };
-    read_for(alloc, asked, shelf)
-}
 
 /// Does what the words of `log` ask for, as `log_run` does, with each subthread walked as the recheck says.
 pub fn log_rechecked<R: Threads + Sync + AllocGlobal, H: Shelf, O: Sink, E: Sink, G: Gate>(
@@ -60,8 +39,8 @@ pub fn log_rechecked<R: Threads + Sync + AllocGlobal, H: Shelf, O: Sink, E: Sink
     ensures unread { log_by (texts words.now) ≡ None → shelf.new ≡ shelf.old }
 {
     let alloc = rt.alloc();
-    match read_log(alloc, words, shelf) {
-        Ok(request) => carry_rechecked(rt, alloc, request, recheck, out, err, gate).0,
+    match read_by(alloc, read_log_words(alloc, words), shelf) {
+        Ok(request) => carry_out(rt, alloc, request, recheck, out, err, gate).0,
         Err(refusal) => refused_outcome(alloc, refusal, err),
     }
 }

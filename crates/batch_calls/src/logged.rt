@@ -1,51 +1,43 @@
 // Carries a run out of which a log is kept, and writes its text, and the log while it goes on.
-ghost use Rattle.std.specs.Prelude.{◌≡◌, ◌⊎◌, ℕ, List, [], length};
-ghost use Rattle.task_ast.specs.View.{plain_program};
-ghost use Rattle.lock_checker.specs.Accepted.{program_of};
+ghost use Rattle.std.specs.Prelude.{◌≡◌, ◌⊎◌, ℕ, List, length};
 ghost use Rattle.command_line.specs.declared.asked.Command.TheVariants as command;
 ghost use Rattle.call_cases.specs.meaning.Answers.{Change, Fails, change_of};
 ghost use Rattle.call_cases.specs.meaning.PlainText.{plain_ran, restarts_in};
 ghost use Rattle.call_cases.specs.meaning.Texts.{run_text};
-ghost use Rattle.call_cases.specs.meaning.Work.{ToDo, work_for};
+ghost use Rattle.call_cases.specs.meaning.Work.{ToDo};
+ghost use Rattle.batch_calls.specs.inner.Fresh.{IsFresh};
 ghost use Rattle.batch_calls.specs.inner.Logged.{IsLogged, LogsFor, stop_status};
-ghost use Rattle.batch_calls.specs.inner.Planned.{IsPlanned, work_begun};
+ghost use Rattle.batch_calls.specs.inner.Planned.{IsPlanned, work_planned};
 ghost use Rattle.batch_calls.specs.inner.Ran.{RunsIf, RanIf};
 
+use crate::basis::Basis;
 use crate::plan::Begins;
 use crate::run::{put_tail, stopped};
 use crate::texts::OUTPUT;
 use call_cases::{Outcome, empty_journal, end_status};
-use command_line::Asked;
 use crew::Crew;
 use engine::{EngineStop, Report, StopWhy, drive_noted};
 use gp_base::{Sink, put_all};
-use lock_checker::Checked;
 use retirement_log::LogNotes;
 use std::alloc::Global;
 use std::thread::Threads;
-use subthread::Work;
 
-// Runs the program of a plan, and writes the printed lines to `out`, and its log.
+// Runs what is planned, and writes the printed lines to `out`, and its log.
 fn put_noted<R: Threads + Sync, C: Crew, O: Sink, L: Sink>(
     rt: &R,
     alloc: Global,
-    asked: &Asked,
-    checked: &Checked,
-    code: &Work,
+    basis: &Basis,
     begins: Begins,
     crew: &mut C,
     out: &mut O,
     log: &mut L,
 ) -> Result<Report, EngineStop>
-    requires planned { IsPlanned asked.now (plain_program (program_of checked.now)) code.now begins }
-    requires ready { C.ready crew.old }
-    requires work { C.work crew.old ≡ code.now }
-    requires none_out { C.out crew.old ≡ [] }
-    requires none_posted { C.posted crew.old ≡ [] }
-    requires run { asked.now.command ≡ command.Log }
+    requires planned { IsPlanned basis.now.plan.now basis.now.code.now begins }
+    requires fresh { IsFresh C.ready C.work C.out C.posted crew.old basis.now.code.now }
+    requires run { basis.now.plan.now.asked.command ≡ command.Log }
     ensures lines { let taken = change_of O.written O.faults out.old out.new in let logged = change_of L.written L.faults log.old log.new in
-        RunsIf (Fails taken ⊎ Fails logged) (work_for asked.now (plain_program (program_of checked.now)) begins.inputs begins.faults.list) taken result }
-    ensures log { IsLogged (work_for asked.now (plain_program (program_of checked.now)) begins.inputs begins.faults.list) (change_of L.written L.faults log.old log.new) result }
+        RunsIf (Fails taken ⊎ Fails logged) (work_planned basis.now.plan.now begins) taken result }
+    ensures log { IsLogged (work_planned basis.now.plan.now begins) (change_of L.written L.faults log.old log.new) result }
 {
     let Begins {
         layout,
@@ -56,33 +48,28 @@ fn put_noted<R: Threads + Sync, C: Crew, O: Sink, L: Sink>(
     } = begins;
     let mut notes = LogNotes::new(alloc);
     drive_noted(
-        rt, alloc, code, layout, inputs, faults, limits, crew, out, &mut notes, log,
+        rt, alloc, basis.code, layout, inputs, faults, limits, crew, out, &mut notes, log,
     )
 }
 
-/// Runs a plan with a crew, and writes the first line, the printed lines and the tail, and to `log` a row for each
-/// position that retires.
+/// Runs what is planned with a crew to which nothing was posted, and writes the first line, the printed lines and the
+/// tail, and to `log` a row for each position that retires.
 pub fn put_logged<R: Threads + Sync, C: Crew, O: Sink, L: Sink>(
     rt: &R,
     alloc: Global,
-    asked: &Asked,
-    checked: &Checked,
-    code: &Work,
+    basis: &Basis,
     begins: Begins,
     crew: &mut C,
     out: &mut O,
     log: &mut L,
 ) -> Result<Report, EngineStop>
-    requires planned { IsPlanned asked.now (plain_program (program_of checked.now)) code.now begins }
-    requires ready { C.ready crew.old }
-    requires work { C.work crew.old ≡ code.now }
-    requires none_out { C.out crew.old ≡ [] }
-    requires none_posted { C.posted crew.old ≡ [] }
-    requires run { asked.now.command ≡ command.Log }
+    requires planned { IsPlanned basis.now.plan.now basis.now.code.now begins }
+    requires fresh { IsFresh C.ready C.work C.out C.posted crew.old basis.now.code.now }
+    requires run { basis.now.plan.now.asked.command ≡ command.Log }
     ensures text { let taken = change_of O.written O.faults out.old out.new in let logged = change_of L.written L.faults log.old log.new in
-        let work = work_begun asked.now checked.now begins in
+        let work = work_planned basis.now.plan.now begins in
         RanIf (Fails taken ⊎ Fails logged) work (run_text (plain_ran work) (restarts_in work) (length work.faults)) taken result }
-    ensures log { IsLogged (work_begun asked.now checked.now begins) (change_of L.written L.faults log.old log.new) result }
+    ensures log { IsLogged (work_planned basis.now.plan.now begins) (change_of L.written L.faults log.old log.new) result }
 {
     match put_all(out, OUTPUT) {
         Ok(()) => {}
@@ -91,11 +78,11 @@ pub fn put_logged<R: Threads + Sync, C: Crew, O: Sink, L: Sink>(
             return Err(stopped(fault, empty_journal(alloc)));
         }
     }
-    let report = match put_noted(rt, alloc, asked, checked, code, begins, crew, out, log) {
+    let report = match put_noted(rt, alloc, basis, begins, crew, out, log) {
         Ok(report) => report,
         Err(stop) => return Err(stop),
     };
-    match put_tail(alloc, &code.recheck, checked, &report, out) {
+    match put_tail(alloc, basis, &report, out) {
         Ok(()) => Ok(report),
         Err(fault) => Err(stopped(fault, report.journal)),
     }

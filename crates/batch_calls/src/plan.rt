@@ -1,28 +1,21 @@
-// Runs over a journal: the code of a program, and what its run begins with.
-ghost use Rattle.std.specs.Prelude.{◌≡◌, [], IfOk};
+// Runs over a journal before they begin: the code of a program, and what its run begins with.
+ghost use Rattle.std.specs.Prelude.{◌≡◌, IfOk};
 ghost use Rattle.task_ast.specs.View.{plain_program};
 ghost use Rattle.lock_checker.specs.Accepted.{program_of};
-ghost use Rattle.call_cases.specs.meaning.Answers.{change_of};
 ghost use Rattle.call_cases.specs.Decided.{IsSound, work_of};
-ghost use Rattle.call_cases.specs.meaning.Work.{work_for};
 ghost use Rattle.command_line.specs.Words.{IsWithinRanges};
-ghost use Rattle.subthread.specs.Tasks.{Suits, program_in};
+ghost use Rattle.subthread.specs.Tasks.{program_in};
 ghost use Rattle.task_ast.specs.meaning.Layout.{layout};
 ghost use Rattle.task_code.specs.Flat.{code_of};
 ghost use Rattle.task_code.specs.Jumps.{IsCode};
 ghost use Rattle.whole_run.specs.Recovering.{HasCuts};
-ghost use Rattle.batch_calls.specs.inner.Planned.{IsPlanOf, IsPlanned, recovery_of, work_planned};
-ghost use Rattle.batch_calls.specs.inner.Ran.{batch_from, RunsBatch, RunsWork};
+ghost use Rattle.batch_calls.specs.inner.Planned.{IsPlanned, recovery_of, work_planned};
 
 use call_cases::{Request, copied_feeds};
 use command_line::{Asked, Command};
-use crew::Crew;
-use engine::{EngineStop, Report, drive};
-use gp_base::{Faults, Feed, Inputs, Limits, Sink};
-use gp_checkpoint::ckpt_drive;
+use gp_base::{Faults, Feed, Inputs, Limits};
 use lock_checker::Checked;
 use std::alloc::{AllocError, Global};
-use std::thread::Threads;
 use subthread::{Recheck, Work};
 use task_ast::Layout;
 use task_code::lower;
@@ -38,12 +31,11 @@ pub struct Begins {
     pub limits: Limits,
 }
 
-/// A run that may begin, beside its program as code: what is asked, the accepted program, and what the run begins with.
+/// What is asked for a run that may begin, and its accepted program.
 #[derive(Drop)]
 pub struct Plan {
     pub asked: Asked,
     pub checked: Checked,
-    pub begins: Begins,
 }
 
 // How the run of a command recovers from faults.
@@ -87,16 +79,16 @@ fn work_and_layout(
     Ok((work, layout))
 }
 
-/// The code of a request's program, whose subthreads are walked under this recheck, and the plan of its run. The error
-/// is that memory is out.
+/// The code of a request's program, whose subthreads are walked under this recheck, the plan of its run, and what that
+/// begins with. The error is that memory is out.
 pub fn plan_of(
     alloc: Global,
     request: Request,
     recheck: Recheck,
-) -> Result<(Work, Plan), AllocError>
+) -> Result<(Work, Plan, Begins), AllocError>
     requires { IsSound request.asked (plain_program (program_of request.checked)) request.inputs }
-    ensures plan { IfOk result (λ made. IsPlanOf made.0 made.1) }
-    ensures work { IfOk result (λ made. work_planned made.1 ≡ work_of request) }
+    ensures plan { IfOk result (λ made. IsPlanned made.1 made.0 made.2) }
+    ensures work { IfOk result (λ made. work_planned made.1 made.2 ≡ work_of request) }
     ensures asked { IfOk result (λ made. made.1.asked ≡ request.asked) }
 {
     let limits = request.asked.limits;
@@ -127,64 +119,5 @@ pub fn plan_of(
         faults,
         limits,
     };
-    let plan = Plan {
-        asked,
-        checked,
-        begins,
-    };
-    Ok((work, plan))
-}
-
-// Runs a code with a crew to which nothing was posted, and writes the printed lines.
-fn drive_by<R: Threads + Sync, C: Crew, O: Sink>(
-    rt: &R,
-    alloc: Global,
-    code: &Work,
-    begins: Begins,
-    crew: &mut C,
-    out: &mut O,
-) -> Result<Report, EngineStop>
-    requires suits { Suits code.now begins.layout begins.inputs begins.limits }
-    requires cuts { HasCuts begins.recovery }
-    requires ready { C.ready crew.old }
-    requires work { C.work crew.old ≡ code.now }
-    requires none_out { C.out crew.old ≡ [] }
-    requires none_posted { C.posted crew.old ≡ [] }
-    ensures { RunsBatch (batch_from code.now begins) (change_of O.written O.faults out.old out.new) result }
-{
-    let Begins {
-        recovery,
-        layout,
-        inputs,
-        faults,
-        limits,
-    } = begins;
-    match recovery {
-        Recovery::Selective => drive(rt, alloc, code, layout, inputs, faults, limits, crew, out),
-        Recovery::Rollback(every) => ckpt_drive(
-            rt, alloc, code, layout, inputs, faults, limits, every, crew, out,
-        ),
-    }
-}
-
-/// Runs the program of a plan with a crew to which nothing was posted, and writes the printed lines to `out`. The
-/// answer is how the run went, or how it stopped.
-pub fn put_lines<R: Threads + Sync, C: Crew, O: Sink>(
-    rt: &R,
-    alloc: Global,
-    asked: &Asked,
-    checked: &Checked,
-    code: &Work,
-    begins: Begins,
-    crew: &mut C,
-    out: &mut O,
-) -> Result<Report, EngineStop>
-    requires planned { IsPlanned asked.now (plain_program (program_of checked.now)) code.now begins }
-    requires ready { C.ready crew.old }
-    requires work { C.work crew.old ≡ code.now }
-    requires none_out { C.out crew.old ≡ [] }
-    requires none_posted { C.posted crew.old ≡ [] }
-    ensures { RunsWork (work_for asked.now (plain_program (program_of checked.now)) begins.inputs begins.faults.list) (change_of O.written O.faults out.old out.new) result }
-{
-    drive_by(rt, alloc, code, begins, crew, out)
+    Ok((work, Plan { asked, checked }, begins))
 }

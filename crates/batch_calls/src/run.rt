@@ -1,5 +1,5 @@
 // Carries a run over a journal out, and writes its text and its trace.
-ghost use Rattle.std.specs.Prelude.{◌≡◌, ℕ, List, [], true, false, length, IfOk, OnOk, OnErr, Option, if◌then◌else◌};
+ghost use Rattle.std.specs.Prelude.{◌≡◌, ℕ, List, [], length, IfOk, OnOk, OnErr, Option, if◌then◌else◌};
 ghost use Rattle.std.specs.Io.KnownBytes.{Appends};
 ghost use Rattle.gp_base.specs.meaning.Sinks.{AppendsPrefix, HasCause};
 ghost use Rattle.task_ast.specs.View.{plain_program};
@@ -9,31 +9,30 @@ ghost use Rattle.command_line.specs.declared.asked.Command.TheVariants as comman
 ghost use Rattle.command_line.specs.declared.asked.Asked.{Asked};
 ghost use Rattle.call_cases.specs.meaning.Answers.{Change, change_of};
 ghost use Rattle.call_cases.specs.Answers.{LineEnds, PutFor, unwritten};
-ghost use Rattle.call_cases.specs.Decided.{work_of};
 ghost use Rattle.call_cases.specs.meaning.PlainText.{plain_ran, restarts_in};
 ghost use Rattle.call_cases.specs.meaning.RunCommands.{end_status};
 ghost use Rattle.call_cases.specs.meaning.Texts.{run_text, run_soak};
-ghost use Rattle.call_cases.specs.meaning.Work.{ToDo, is_journalled};
-ghost use Rattle.batch_calls.specs.inner.Planned.{IsPlanOf, IsPlanned, Carries, work_begun, work_planned};
-ghost use Rattle.batch_calls.specs.inner.Ran.{RanFor, EndsFor, StopsWith, WritesLines, why_of, fault_of, told_tail, told_soak};
+ghost use Rattle.call_cases.specs.meaning.Work.{ToDo};
+ghost use Rattle.batch_calls.specs.inner.Fresh.{IsFresh};
+ghost use Rattle.batch_calls.specs.inner.Planned.{IsPlanned, Carries, work_planned};
+ghost use Rattle.batch_calls.specs.inner.Ran.{RanFor, RunsWork, EndsFor, StopsWith, WritesLines, why_of, fault_of, told_tail, told_soak};
+ghost use Rattle.batch_calls.specs.inner.Ways.{Writes};
 
+use crate::basis::{Basis, Output};
 use crate::logged::{outcome_logged, put_logged};
-use crate::plain::{put_ok, put_one};
-use crate::plan::{Begins, Plan, put_lines};
+use crate::plan::Begins;
 use crate::texts::OUTPUT;
-use call_cases::{
-    OUT_OF_MEMORY, Outcome, Request, WRITE_FAULT, empty_journal, end_status, end_with,
-    plain_outcome,
-};
-use command_line::{Asked, Command, Soak};
-use crew::Crew;
-use engine::{EngineStop, Report, StopWhy};
-use gp_base::{Journal, NeverSink, Pos, Sink, SinkFault, Text, put_all};
-use lock_checker::Checked;
+use call_cases::{OUT_OF_MEMORY, Outcome, WRITE_FAULT, empty_journal, end_status, end_with};
+use command_line::Soak;
+use crew::{Crew, InlineCrew};
+use engine::{EngineStop, Report, StopWhy, drive};
+use gp_base::{Gate, Journal, NeverSink, Pos, Sink, SinkFault, Text, put_all};
+use gp_checkpoint::ckpt_drive;
 use restart_log::{is_soak_text, is_tail_text, soak_text, tail_text, trace_text};
 use std::alloc::{AllocError, Global};
 use std::thread::Threads;
-use subthread::{Recheck, Work};
+use subthread::Recheck;
+use whole_run::Recovery;
 
 fn why_of(fault: SinkFault) -> StopWhy
     ensures { result ≡ why_of fault }
@@ -72,14 +71,11 @@ fn last_of(report: &Report) -> Pos {
 
 // What follows the printed lines; where walks are compared, it is made twice. The error is that memory is out, or that the
 // two texts differ, which is noted.
-fn tail_of(
-    alloc: Global,
-    recheck: &Recheck,
-    checked: &Checked,
-    report: &Report,
-) -> Result<Text, AllocError>
-    ensures { IfOk result (λ text. text ≡ told_tail (plain_program (program_of checked.now)) report.now) }
+fn tail_of(alloc: Global, basis: &Basis, report: &Report) -> Result<Text, AllocError>
+    ensures { IfOk result (λ text. text ≡ told_tail (plain_program (program_of basis.now.plan.now.checked)) report.now) }
 {
+    let checked = &basis.plan.checked;
+    let recheck = &basis.code.recheck;
     let tail = tail_text(alloc, checked, report)?;
     if recheck.is_on() && !is_tail_text(alloc, tail.as_slice(), checked, report)? {
         recheck.note_damaged(last_of(report));
@@ -109,16 +105,15 @@ fn summary_of(
 /// Writes what follows the printed lines.
 pub fn put_tail<O: Sink>(
     alloc: Global,
-    recheck: &Recheck,
-    checked: &Checked,
+    basis: &Basis,
     report: &Report,
     out: &mut O,
 ) -> Result<(), SinkFault>
-    ensures all { OnOk result (Appends (O.written out.old) (O.written out.new) (told_tail (plain_program (program_of checked.now)) report.now)) }
-    ensures prefix { OnErr result (AppendsPrefix (O.written out.old) (O.written out.new) (told_tail (plain_program (program_of checked.now)) report.now)) }
+    ensures all { OnOk result (Appends (O.written out.old) (O.written out.new) (told_tail (plain_program (program_of basis.now.plan.now.checked)) report.now)) }
+    ensures prefix { OnErr result (AppendsPrefix (O.written out.old) (O.written out.new) (told_tail (plain_program (program_of basis.now.plan.now.checked)) report.now)) }
     ensures cause { HasCause (O.faults out.old) (O.faults out.new) result }
 {
-    let tail = tail_of(alloc, recheck, checked, report)?;
+    let tail = tail_of(alloc, basis, report)?;
     put_all(out, tail.as_slice())
 }
 
@@ -138,24 +133,49 @@ fn put_summary<O: Sink>(
     put_all(out, summary.as_slice())
 }
 
-// Runs a plan with a crew, and writes the first line, the printed lines, and the tail.
-fn put_run<R: Threads + Sync, C: Crew, O: Sink>(
+// Runs what is planned with a crew to which nothing was posted, and writes the printed lines. The answer is how the
+// run went, or how it stopped.
+fn put_lines<R: Threads + Sync, C: Crew, O: Sink>(
     rt: &R,
     alloc: Global,
-    asked: &Asked,
-    checked: &Checked,
-    code: &Work,
+    basis: &Basis,
     begins: Begins,
     crew: &mut C,
     out: &mut O,
 ) -> Result<Report, EngineStop>
-    requires planned { IsPlanned asked.now (plain_program (program_of checked.now)) code.now begins }
-    requires ready { C.ready crew.old }
-    requires work { C.work crew.old ≡ code.now }
-    requires none_out { C.out crew.old ≡ [] }
-    requires none_posted { C.posted crew.old ≡ [] }
-    requires lines { WritesLines asked.now.command }
-    ensures { let work = work_begun asked.now checked.now begins in
+    requires planned { IsPlanned basis.now.plan.now basis.now.code.now begins }
+    requires fresh { IsFresh C.ready C.work C.out C.posted crew.old basis.now.code.now }
+    ensures { RunsWork (work_planned basis.now.plan.now begins) (change_of O.written O.faults out.old out.new) result }
+{
+    let Begins {
+        recovery,
+        layout,
+        inputs,
+        faults,
+        limits,
+    } = begins;
+    let code = basis.code;
+    match recovery {
+        Recovery::Selective => drive(rt, alloc, code, layout, inputs, faults, limits, crew, out),
+        Recovery::Rollback(every) => ckpt_drive(
+            rt, alloc, code, layout, inputs, faults, limits, every, crew, out,
+        ),
+    }
+}
+
+// Runs what is planned with such a crew, and writes the first line, the printed lines, and the tail.
+fn put_run<R: Threads + Sync, C: Crew, O: Sink>(
+    rt: &R,
+    alloc: Global,
+    basis: &Basis,
+    begins: Begins,
+    crew: &mut C,
+    out: &mut O,
+) -> Result<Report, EngineStop>
+    requires planned { IsPlanned basis.now.plan.now basis.now.code.now begins }
+    requires fresh { IsFresh C.ready C.work C.out C.posted crew.old basis.now.code.now }
+    requires lines { WritesLines basis.now.plan.now.asked.command }
+    ensures { let work = work_planned basis.now.plan.now begins in
         RanFor work (run_text (plain_ran work) (restarts_in work) (length work.faults)) (change_of O.written O.faults out.old out.new) result }
 {
     match put_all(out, OUTPUT) {
@@ -165,43 +185,38 @@ fn put_run<R: Threads + Sync, C: Crew, O: Sink>(
             return Err(stopped(fault, empty_journal(alloc)));
         }
     }
-    let report = match put_lines(rt, alloc, asked, checked, code, begins, crew, out) {
+    let report = match put_lines(rt, alloc, basis, begins, crew, out) {
         Ok(report) => report,
         Err(stop) => return Err(stop),
     };
-    match put_tail(alloc, &code.recheck, checked, &report, out) {
+    match put_tail(alloc, basis, &report, out) {
         Ok(()) => Ok(report),
         Err(fault) => Err(stopped(fault, report.journal)),
     }
 }
 
-// Runs the plan of a batch that the program made, whose lines nobody reads, and writes its summary.
+// Runs a batch that the program made, whose lines nobody reads, and writes its summary.
 fn put_soak<R: Threads + Sync, C: Crew, O: Sink>(
     rt: &R,
     alloc: Global,
-    asked: &Asked,
-    checked: &Checked,
-    code: &Work,
+    basis: &Basis,
     begins: Begins,
     soak: Soak,
     crew: &mut C,
     out: &mut O,
 ) -> Result<Report, EngineStop>
-    requires planned { IsPlanned asked.now (plain_program (program_of checked.now)) code.now begins }
-    requires ready { C.ready crew.old }
-    requires work { C.work crew.old ≡ code.now }
-    requires none_out { C.out crew.old ≡ [] }
-    requires none_posted { C.posted crew.old ≡ [] }
-    requires run { asked.now.command ≡ command.Soak soak }
-    ensures { let work = work_begun asked.now checked.now begins in
+    requires planned { IsPlanned basis.now.plan.now basis.now.code.now begins }
+    requires fresh { IsFresh C.ready C.work C.out C.posted crew.old basis.now.code.now }
+    requires run { basis.now.plan.now.asked.command ≡ command.Soak soak }
+    ensures { let work = work_planned basis.now.plan.now begins in
         RanFor work (run_soak soak (plain_ran work) (restarts_in work) (length work.faults)) (change_of O.written O.faults out.old out.new) result }
 {
     let mut nobody = NeverSink::new();
-    let report = match put_lines(rt, alloc, asked, checked, code, begins, crew, &mut nobody) {
+    let report = match put_lines(rt, alloc, basis, begins, crew, &mut nobody) {
         Ok(report) => report,
         Err(stop) => return Err(stop),
     };
-    match put_summary(alloc, &code.recheck, soak, &report, out) {
+    match put_summary(alloc, &basis.code.recheck, soak, &report, out) {
         Ok(()) => Ok(report),
         Err(fault) => Err(stopped(fault, report.journal)),
     }
@@ -251,72 +266,37 @@ fn outcome_of<E: Sink>(
     }
 }
 
-// Does what a plan asks for, with a crew to which nothing was posted.
-fn carry_begun<R: Threads + Sync, C: Crew, O: Sink, E: Sink>(
+/// Runs what is planned over a journal with a crew to which nothing was posted, and writes its text, and the trace of
+/// its run where one is asked for. Where the output fails, the line of that is written to `err`. A run whose log is
+/// kept writes nothing but the log to `err`.
+pub fn carry_by<R: Threads + Sync, C: Crew, O: Sink, E: Sink>(
     rt: &R,
     alloc: Global,
-    asked: &Asked,
-    checked: &Checked,
-    code: &Work,
+    basis: &Basis,
     begins: Begins,
     crew: &mut C,
     out: &mut O,
     err: &mut E,
 ) -> Outcome
-    requires planned { IsPlanned asked.now (plain_program (program_of checked.now)) code.now begins }
-    requires ready { C.ready crew.old }
-    requires work { C.work crew.old ≡ code.now }
-    requires none_out { C.out crew.old ≡ [] }
-    requires none_posted { C.posted crew.old ≡ [] }
-    requires run { is_journalled asked.now.command ≡ true }
-    ensures { Carries asked.now (work_begun asked.now checked.now begins) (change_of O.written O.faults out.old out.new) (change_of E.written E.faults err.old err.new) result.status result.journal }
+    requires planned { IsPlanned basis.now.plan.now basis.now.code.now begins }
+    requires writes { Writes basis.now.plan.now.asked.command basis.now.output }
+    requires fresh { IsFresh C.ready C.work C.out C.posted crew.old basis.now.code.now }
+    ensures { Carries basis.now.plan.now.asked (work_planned basis.now.plan.now begins) (change_of O.written O.faults out.old out.new) (change_of E.written E.faults err.old err.new) result.status result.journal }
 {
-    match asked.command {
-        Command::Run | Command::Ckpt(_) => {
-            let ran = put_run(rt, alloc, asked, checked, code, begins, crew, out);
-            outcome_of(alloc, asked.trace, &code.recheck, ran, err)
+    match basis.output {
+        Output::Lines => {
+            let ran = put_run(rt, alloc, basis, begins, crew, out);
+            outcome_of(alloc, basis.plan.asked.trace, &basis.code.recheck, ran, err)
         }
-        Command::Soak(soak) => {
-            let ran = put_soak(rt, alloc, asked, checked, code, begins, soak, crew, out);
-            outcome_of(alloc, asked.trace, &code.recheck, ran, err)
+        Output::Summary(soak) => {
+            let ran = put_soak(rt, alloc, basis, begins, soak, crew, out);
+            outcome_of(alloc, basis.plan.asked.trace, &basis.code.recheck, ran, err)
         }
-        Command::Log => {
-            let ran = put_logged(rt, alloc, asked, checked, code, begins, crew, out, err);
+        Output::LinesAndLog => {
+            let ran = put_logged(rt, alloc, basis, begins, crew, out, err);
             outcome_logged(ran)
         }
-        Command::One | Command::Check => unreachable!(),
     }
-}
-
-/// Runs a plan over a journal with a crew to which nothing was posted, and writes its text, and the trace of its run
-/// where one is asked for. Where the output fails, the line of that is written to `err`. A run whose log is kept writes
-/// nothing but the log to `err`.
-pub fn carry_by<R: Threads + Sync, C: Crew, O: Sink, E: Sink>(
-    rt: &R,
-    alloc: Global,
-    code: &Work,
-    plan: Plan,
-    crew: &mut C,
-    out: &mut O,
-    err: &mut E,
-) -> Outcome
-    requires planned { IsPlanOf code.now plan }
-    requires ready { C.ready crew.old }
-    requires work { C.work crew.old ≡ code.now }
-    requires none_out { C.out crew.old ≡ [] }
-    requires none_posted { C.posted crew.old ≡ [] }
-    requires run { is_journalled plan.asked.command ≡ true }
-    ensures { Carries plan.asked (work_planned plan) (change_of O.written O.faults out.old out.new) (change_of E.written E.faults err.old err.new) result.status result.journal }
-{
-    let Plan {
-        asked,
-        checked,
-        begins,
-    } = plan;
-    let outcome = carry_begun(rt, alloc, &asked, &checked, code, begins, crew, out, err);
-    drop(checked);
-    drop(asked);
-    outcome
 }
 
 // The fault of the output at which a run stopped.
@@ -329,33 +309,24 @@ fn fault_of(why: StopWhy) -> SinkFault
     }
 }
 
-/// Runs a plan with a crew to which nothing was posted, and writes the text of its run. The answer is the status; no
-/// journal is told.
-pub fn put_untold<R: Threads + Sync, C: Crew, O: Sink>(
+/// Runs what is planned in the calling thread, and writes the text of its run. The answer is the status; no journal
+/// is told.
+pub fn put_untold<R: Threads + Sync, O: Sink, G: Gate>(
     rt: &R,
     alloc: Global,
-    code: &Work,
-    plan: Plan,
-    crew: &mut C,
+    basis: &Basis,
+    begins: Begins,
     out: &mut O,
+    gate: &G,
 ) -> Result<u8, SinkFault>
-    requires planned { IsPlanOf code.now plan }
-    requires ready { C.ready crew.old }
-    requires work { C.work crew.old ≡ code.now }
-    requires none_out { C.out crew.old ≡ [] }
-    requires none_posted { C.posted crew.old ≡ [] }
-    requires lines { WritesLines plan.asked.command }
-    ensures { let work = work_planned plan in
+    requires planned { IsPlanned basis.now.plan.now basis.now.code.now begins }
+    requires lines { WritesLines basis.now.plan.now.asked.command }
+    ensures { let work = work_planned basis.now.plan.now begins in
         PutFor (run_text (plain_ran work) (restarts_in work) (length work.faults)) (end_status (plain_ran work).end) (change_of O.written O.faults out.old out.new) result }
 {
-    let Plan {
-        asked,
-        checked,
-        begins,
-    } = plan;
-    let ran = put_run(rt, alloc, &asked, &checked, code, begins, crew, out);
-    drop(checked);
-    drop(asked);
+    let mut crew = InlineCrew::new(alloc, basis.code, gate);
+    let ran = put_run(rt, alloc, basis, begins, &mut crew, out);
+    drop(crew);
     match ran {
         Ok(report) => Ok(end_status(report.end)),
         Err(stop) => Err(fault_of(stop.why)),
@@ -372,37 +343,4 @@ pub fn unbegun<E: Sink>(alloc: Global, err: &mut E) -> Outcome
         status,
         journal: empty_journal(alloc),
     }
-}
-
-/// Does what is requested that runs over no journal.
-pub fn put_plain<O: Sink, E: Sink>(
-    alloc: Global,
-    request: &Request,
-    out: &mut O,
-    err: &mut E,
-) -> Outcome
-    requires { is_journalled request.now.asked.command ≡ false }
-    ensures { Carries request.now.asked (work_of request.now) (change_of O.written O.faults out.old out.new) (change_of E.written E.faults err.old err.new) result.status result.journal }
-{
-    match request.asked.command {
-        Command::One => {
-            let put = put_one(alloc, request, out);
-            plain_outcome(alloc, put, err)
-        }
-        Command::Check => {
-            let put = put_ok(out);
-            plain_outcome(alloc, put, err)
-        }
-        Command::Run | Command::Soak(_) | Command::Ckpt(_) | Command::Log => unreachable!(),
-    }
-}
-
-/// Whether a command runs its program over a journal.
-pub fn is_journalled(command: Command) -> bool
-    ensures { result ≡ is_journalled command }
-{
-    matches!(
-        command,
-        Command::Run | Command::Soak(_) | Command::Ckpt(_) | Command::Log
-    )
 }

@@ -9,6 +9,7 @@ use crate::crews::carry_out;
 use call_cases::{Outcome, read_request, refused_outcome};
 use gp_base::{Gate, Shelf, Sink};
 use std::thread::Threads;
+use subthread::Recheck;
 
 /// Does what the words ask for, over what is handed in. The words are those after the program's name.
 ///
@@ -44,7 +45,7 @@ pub fn gprs_run<R: Threads + Sync + AllocGlobal, H: Shelf, O: Sink, E: Sink, G: 
 {
     let alloc = rt.alloc();
     match read_request(alloc, words, shelf) {
-        Ok(request) => carry_out(rt, alloc, request, out, err, gate),
+        Ok(request) => carry_out(rt, alloc, request, Recheck::once(), out, err, gate).0,
         Err(refusal) => refused_outcome(alloc, refusal, err),
     }
 }

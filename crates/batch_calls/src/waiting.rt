@@ -1,125 +1,147 @@
 // The top call whose workers may last, and which may wait for them.
-ghost use Rattle.std.specs.Prelude.{◌≡◌, Some, None, true, IfOk, IfSome};
+ghost use Rattle.std.specs.Prelude.{◌≡◌, IfOk};
 ghost use Rattle.std.specs.Arc.{arc_value};
+ghost use Rattle.task_ast.specs.View.{plain_program};
+ghost use Rattle.lock_checker.specs.Accepted.{program_of};
 ghost use Rattle.command_line.specs.meaning.Words.{texts, asked_waiting};
 ghost use Rattle.call_cases.specs.meaning.Answers.{change_of};
-ghost use Rattle.call_cases.specs.meaning.Case.{IsCase};
-ghost use Rattle.call_cases.specs.Decided.{MayRun, case_of, work_of};
+ghost use Rattle.call_cases.specs.Decided.{IsSound, MayRun, work_of};
 ghost use Rattle.call_cases.specs.meaning.Headline.{Headline, ReadsNothing};
-ghost use Rattle.call_cases.specs.Refusals.{AnswersCase, AnswersNoCommand, TouchesShelf};
-ghost use Rattle.call_cases.specs.meaning.RunCommands.{MayRead};
-ghost use Rattle.call_cases.specs.meaning.Work.{is_journalled};
-ghost use Rattle.batch_calls.specs.meaning.WaitingCommands.{asking, commands};
-ghost use Rattle.batch_calls.specs.inner.Planned.{IsPlanOf, Carries, work_planned};
+ghost use Rattle.batch_calls.specs.meaning.WaitingCommands.{commands};
+ghost use Rattle.batch_calls.specs.inner.Fresh.{IsFresh};
+ghost use Rattle.batch_calls.specs.inner.Planned.{IsPlanned, Carries, work_planned};
+ghost use Rattle.batch_calls.specs.inner.Ways.{Writes};
 
-use crate::crews::{carry_out, carry_rechecked};
-use crate::plan::{Plan, plan_of};
-use crate::run::{carry_by, is_journalled, unbegun};
-use call_cases::{Outcome, Refusal, Request, read_for, refused_outcome};
+use crate::basis::{Basis, Output, Way, way_of};
+use crate::crews::carry_out;
+use crate::plan::{Begins, Plan, plan_of};
+use crate::reading::read_by;
+use crate::run::{carry_by, unbegun};
+use call_cases::{Outcome, Request, refused_outcome};
 use command_line::{CrewKind, read_waiting_words};
+use crew::Crew;
 use gp_base::{Gate, Shelf, Sink};
 use pipe_crew::PipeCrew;
-use std::alloc::Global;
+use std::alloc::{AllocError, Global};
 use std::sync::{Arc, Wait};
 use std::thread::Threads;
 use subthread::{Recheck, Work};
 
-// What the words ask for, as `read_request` reads it, where `pipe` is the word of a crew too.
-fn read_waiting<H: Shelf>(
-    alloc: Global,
-    words: &[String],
-    shelf: &mut H,
-) -> Result<Request, Refusal>
-    ensures no_command { asked_waiting (texts words.now) ≡ None → AnswersNoCommand result }
-    ensures unread { ReadsNothing commands (asked_waiting (texts words.now)) → shelf.new ≡ shelf.old }
-    ensures shelf { TouchesShelf MayRead (asked_waiting (texts words.now)) (H.failed shelf.old) (H.failed shelf.new) result }
-    ensures case { IfSome (H.files shelf.old) (λ files. AnswersCase case_of (IsCase asking (texts words.now) files) result) }
-    ensures sound { IfOk result MayRun }
-    ensures asked { IfOk result (λ request. asked_waiting (texts words.now) ≡ Some request.asked) }
+// The code of a request's program, to be shared, the plan of its run, and what that begins with. The error is that
+// memory is out.
+fn shared_plan_of(alloc: Global, request: Request) -> Result<(Arc<Work>, Plan, Begins), AllocError>
+    requires { IsSound request.asked (plain_program (program_of request.checked)) request.inputs }
+    ensures plan { IfOk result (λ made. IsPlanned made.1 (arc_value made.0) made.2) }
+    ensures work { IfOk result (λ made. work_planned made.1 made.2 ≡ work_of request) }
+    ensures asked { IfOk result (λ made. made.1.asked ≡ request.asked) }
 {
-    let asked = match read_waiting_words(alloc, words) {
-        Ok(Some(asked)) => asked,
-        Ok(None) => return Err(Refusal::Usage),
-        Err(_) => return Err(Refusal::OutOfMemory),
-    };
-    read_for(alloc, asked, shelf)
+    let (work, plan, begins) = plan_of(alloc, request, Recheck::once())?;
+    match Arc::new(alloc, work) {
+        Ok(work) => Ok((work, plan, begins)),
+        Err(refused) => {
+            drop(refused);
+            drop(plan);
+            drop(begins);
+            Err(AllocError)
+        }
+    }
 }
 
-// Runs a plan by lasting workers.
-fn carry_lasting<
+// Lasting workers to whom nothing was posted. The error is that memory is out.
+fn lasting<
+    'a,
     R: Threads + Wait + Clone + Send + Sync + Drop + 'static,
+    G: Gate + Send + Drop + 'static,
+>(
+    rt: &R,
+    alloc: Global,
+    work: &'a Arc<Work>,
+    workers: u32,
+    gate: &Arc<G>,
+) -> Result<PipeCrew<'a, R, G>, AllocError>
+    ensures { IfOk result (λ crew. let told = ⟦<PipeCrew<'a, R, G> as Crew>⟧ in
+        IsFresh told.ready told.work told.out told.posted crew (arc_value work.now)) }
+{
+    let theirs = rt.clone()?;
+    PipeCrew::new(alloc, theirs, work, workers, gate)
+}
+
+// Runs what is planned, whose code is shared so, by lasting workers.
+fn carry_lasting<
+    R: Threads + Wait + Clone + Send + Sync + Drop + AllocGlobal + 'static,
     O: Sink,
     E: Sink,
     G: Gate + Send + Drop + 'static,
 >(
     rt: &R,
-    alloc: Global,
     work: &Arc<Work>,
-    plan: Plan,
+    basis: &Basis,
+    begins: Begins,
     out: &mut O,
     err: &mut E,
     gate: &Arc<G>,
 ) -> Outcome
-    requires planned { IsPlanOf (arc_value work.now) plan }
-    requires run { is_journalled plan.asked.command ≡ true }
-    ensures { Carries plan.asked (work_planned plan) (change_of O.written O.faults out.old out.new) (change_of E.written E.faults err.old err.new) result.status result.journal }
+    requires work { basis.now.code.now ≡ arc_value work.now }
+    requires planned { IsPlanned basis.now.plan.now basis.now.code.now begins }
+    requires writes { Writes basis.now.plan.now.asked.command basis.now.output }
+    ensures { Carries basis.now.plan.now.asked (work_planned basis.now.plan.now begins) (change_of O.written O.faults out.old out.new) (change_of E.written E.faults err.old err.new) result.status result.journal }
 {
-    let Ok(theirs) = rt.clone() else {
-        drop(plan);
-        return unbegun(alloc, err);
-    };
-    match PipeCrew::new(alloc, theirs, work, plan.asked.workers, gate) {
+    let alloc = rt.alloc();
+    match lasting(rt, alloc, work, basis.plan.asked.workers, gate) {
         Ok(mut crew) => {
-            let outcome = carry_by(rt, alloc, work, plan, &mut crew, out, err);
+            let outcome = carry_by(rt, alloc, basis, begins, &mut crew, out, err);
             drop(crew);
             outcome
         }
         Err(_) => {
-            drop(plan);
+            drop(begins);
             unbegun(alloc, err)
         }
     }
 }
 
-// Makes a plan, and runs it by lasting workers.
-fn carry_planned<
-    R: Threads + Wait + Clone + Send + Sync + Drop + 'static,
+// Plans what is requested over a journal, and runs it by lasting workers.
+fn carry_shared<
+    R: Threads + Wait + Clone + Send + Sync + Drop + AllocGlobal + 'static,
     O: Sink,
     E: Sink,
     G: Gate + Send + Drop + 'static,
->(rt: &R, alloc: Global, request: Request, out: &mut O, err: &mut E, gate: &Arc<G>) -> Outcome
+>(rt: &R, request: Request, output: Output, out: &mut O, err: &mut E, gate: &Arc<G>) -> Outcome
     requires sound { MayRun request }
-    requires run { is_journalled request.asked.command ≡ true }
+    requires writes { Writes request.asked.command output }
     ensures { Carries request.asked (work_of request) (change_of O.written O.faults out.old out.new) (change_of E.written E.faults err.old err.new) result.status result.journal }
 {
-    let (work, plan) = match plan_of(alloc, request, Recheck::once()) {
+    let alloc = rt.alloc();
+    let (work, plan, begins) = match shared_plan_of(alloc, request) {
         Ok(made) => made,
         Err(_) => return unbegun(alloc, err),
     };
-    match Arc::new(alloc, work) {
-        Ok(work) => carry_lasting(rt, alloc, &work, plan, out, err, gate),
-        Err(refused) => {
-            drop(refused);
-            drop(plan);
-            unbegun(alloc, err)
-        }
-    }
+    let basis = Basis {
+        plan: &plan,
+        code: &work,
+        output,
+    };
+    let outcome = carry_lasting(rt, &work, &basis, begins, out, err, gate);
+    drop(plan);
+    outcome
 }
 
 // Does what is requested, by lasting workers where these are asked for.
 fn carry_waiting<
-    R: Threads + Wait + Clone + Send + Sync + Drop + 'static,
+    R: Threads + Wait + Clone + Send + Sync + Drop + AllocGlobal + 'static,
     O: Sink,
     E: Sink,
     G: Gate + Send + Drop + 'static,
->(rt: &R, alloc: Global, request: Request, out: &mut O, err: &mut E, gate: &Arc<G>) -> Outcome
+>(rt: &R, request: Request, out: &mut O, err: &mut E, gate: &Arc<G>) -> Outcome
     requires { MayRun request }
     ensures { Carries request.asked (work_of request) (change_of O.written O.faults out.old out.new) (change_of E.written E.faults err.old err.new) result.status result.journal }
 {
-    if is_journalled(request.asked.command) && request.asked.crew == CrewKind::Pipe {
-        return carry_planned(rt, alloc, request, out, err, gate);
+    match way_of(request.asked.command) {
+        Way::Journal(output) if request.asked.crew == CrewKind::Pipe => {
+            carry_shared(rt, request, output, out, err, gate)
+        }
+        _ => carry_out(rt, rt.alloc(), request, Recheck::once(), out, err, &**gate).0,
     }
-    carry_out(rt, alloc, request, out, err, &**gate)
 }
 
 /// Does what the words ask for, as `gprs_run_pipe` does, with each subthread walked as the recheck says, which comes
@@ -149,8 +171,8 @@ pub fn run_rechecked<R: Threads + Sync + AllocGlobal, H: Shelf, O: Sink, E: Sink
     ensures unread { ReadsNothing commands (asked_waiting (texts words.now)) → shelf.new ≡ shelf.old }
 {
     let alloc = rt.alloc();
-    match read_waiting(alloc, words, shelf) {
-        Ok(request) => carry_rechecked(rt, alloc, request, recheck, out, err, gate),
+    match read_by(alloc, read_waiting_words(alloc, words), shelf) {
+        Ok(request) => carry_out(rt, alloc, request, recheck, out, err, gate),
         Err(refusal) => (refused_outcome(alloc, refusal, err), recheck),
     }
 }
@@ -181,8 +203,8 @@ pub fn gprs_run_pipe<
     ensures unread { ReadsNothing commands (asked_waiting (texts words.now)) → shelf.new ≡ shelf.old }
 {
     let alloc = rt.alloc();
-    match read_waiting(alloc, words, shelf) {
-        Ok(request) => carry_waiting(rt, alloc, request, out, err, gate),
+    match read_by(alloc, read_waiting_words(alloc, words), shelf) {
+        Ok(request) => carry_waiting(rt, request, out, err, gate),
         Err(refusal) => refused_outcome(alloc, refusal, err),
     }
 }

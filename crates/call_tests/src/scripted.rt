@@ -83,8 +83,8 @@ fn plan_of_adders(alloc: Global, faults: &str) -> Result<(Work, Begins), Fail>
         drop(request);
         return Err(Fail::from("the program is not to be run"));
     }
-    let (work, plan) = plan_of(alloc, request, Recheck::once())?;
-    Ok((work, plan.begins))
+    let (work, _plan, begins) = plan_of(alloc, request, Recheck::once())?;
+    Ok((work, begins))
 }
 
 // The report of a run that did not stop, and wrote nothing.

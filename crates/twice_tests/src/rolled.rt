@@ -33,8 +33,8 @@ fn plan_of_adders(alloc: Global) -> Result<(Work, Begins), Fail>
         drop(request);
         return Err(Fail::from("the program is not to be run"));
     }
-    let (work, plan) = plan_of(alloc, request, Recheck::twice())?;
-    Ok((work, plan.begins))
+    let (work, _plan, begins) = plan_of(alloc, request, Recheck::twice())?;
+    Ok((work, begins))
 }
 
 // Their run by the crew of the calling thread, with a checkpoint after each four subthreads.

@@ -1,10 +1,8 @@
 -- Runs that may begin, and what comes of them.
 use Rattle.std.specs.Prelude.{◌≡◌, ℕ, true, false, []}
 use Rattle.gp_base.specs.declared.journal.Journal.{Journal}
-use Rattle.task_ast.specs.meaning.Tree.{Program}
 use Rattle.task_ast.specs.View.{plain_program}
 use Rattle.lock_checker.specs.Accepted.{program_of}
-use Rattle.lock_checker.specs.declared.checked.Checked.{Checked}
 use Rattle.subthread.specs.declared.task.Work.{Work}
 use Rattle.subthread.specs.Tasks.{Suits, program_in}
 use Rattle.command_line.specs.declared.asked.Asked.{Asked}
@@ -27,24 +25,17 @@ abbrev pub recovery_of : Command → Recovery
 recovery_of (Ckpt every) = Rollback every
 recovery_of other = Selective
 
--- the code is that of the program, and what the run begins with suits it and what is asked
-pub record IsPlanned (asked : Asked) (program : Program) (code : Work) (begins : Begins) : Type 0 where
+-- the code is that of the plan's program, and what its run begins with suits the code and what is asked
+pub record IsPlanned (plan : Plan) (code : Work) (begins : Begins) : Type 0 where
   pub suits : Suits code begins.layout begins.inputs begins.limits
-  pub program_is : program_in code ≡ program
-  pub limits_are : begins.limits ≡ asked.limits
-  pub recovery_is : begins.recovery ≡ recovery_of asked.command
+  pub program_is : program_in code ≡ plain_program (program_of plan.checked)
+  pub limits_are : begins.limits ≡ plan.asked.limits
+  pub recovery_is : begins.recovery ≡ recovery_of plan.asked.command
   pub cuts : HasCuts begins.recovery
 
--- the plan is one of a run of this code
-abbrev pub IsPlanOf : Work → Plan → Type 0
-IsPlanOf code plan = IsPlanned plan.asked (plain_program (program_of plan.checked)) code plan.begins
-
--- what is to be done
-abbrev pub work_begun : Asked → Checked → Begins → ToDo
-work_begun asked checked begins = work_for asked (plain_program (program_of checked)) begins.inputs begins.faults.list
-
-abbrev pub work_planned : Plan → ToDo
-work_planned plan = work_begun plan.asked plan.checked plan.begins
+-- what is to be done by a plan, from what its run begins with
+abbrev pub work_planned : Plan → Begins → ToDo
+work_planned plan begins = work_for plan.asked (plain_program (program_of plan.checked)) begins.inputs begins.faults.list
 
 -- the same, without faults
 abbrev pub without_faults : ToDo → ToDo

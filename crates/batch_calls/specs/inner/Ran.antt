@@ -19,10 +19,8 @@ use Rattle.reorder_list.specs.declared.report.StopWhy.{StopWhy}
 use Rattle.reorder_list.specs.declared.report.StopWhy.TheVariants.{WriteFault}
 use Rattle.reorder_list.specs.declared.report.StopWhy.TheVariants as why
 use Rattle.restart_log.specs.meaning.Lines.{printed}
-use Rattle.subthread.specs.declared.task.Work.{Work}
-use Rattle.whole_run.specs.Drive.{journal_in, batch_of, JournalStands, ReportsRun, all_lines, WritesRetired, HasRunCause}
+use Rattle.whole_run.specs.Drive.{journal_in, JournalStands, ReportsRun, all_lines, WritesRetired, HasRunCause}
 use Rattle.whole_run.specs.View.{Batch, lines_of}
-use Rattle.batch_calls.specs.declared.plan.Begins.{Begins}
 use Rattle.call_cases.specs.meaning.Work.{ToDo}
 use Rattle.call_cases.specs.meaning.PlainText.{plain_ran, restarts_in}
 use Rattle.call_cases.specs.meaning.Journals.{run_of, retired_in, IsJournalOf, IsCompleteOf, TakesRetired}
@@ -80,10 +78,6 @@ pub record IsReportOf (work : ToDo) (report : Report) : Type 0 where
   pub cells : report.records ≡ (plain_ran work).cells
   pub subthreads : report.subthreads ≡ (plain_ran work).subthreads
   pub unused : report.unused ≡ length work.faults - length (restarts_in work)
-
--- the batch that is run, from its code and from what it begins with
-abbrev pub batch_from : Work → Begins → Batch
-batch_from code begins = batch_of begins.recovery code begins.inputs begins.limits begins.faults
 
 -- what is promised of a batch that was run
 pub record RunsBatch (batch : Batch) (out : Change) (result : Result Report EngineStop) : Type 0 where

@@ -1,35 +1,40 @@
-use Rattle.std.proofs.Common.{ap, refl, subst, IfSome}
+use Rattle.std.proofs.Common.{◌≡◌, ap, sym, subst}
 use Rattle.command_line.specs.meaning.Words.{texts}
-use Rattle.command_line.proofs.KeepsNoLog.{IsLogged, log_asks}
-use Rattle.call_cases.specs.Decided.{program_in, files_read, work_of}
+use Rattle.command_line.specs.meaning.LogWords.{log_by}
+use Rattle.command_line.proofs.KeepsNoLog.{log_asks}
 use Rattle.call_cases.specs.meaning.Answers.{change_of}
-use Rattle.call_cases.proofs.Headlines.{log_headline, refused_headline}
-use Rattle.batch_calls.specs.meaning.LogCommands.{commands, log_for, TakesLog}
-use Rattle.batch_calls.proofs.AskedOtherwise.{log_sound}
-use Rattle.batch_calls.proofs.LoggedEnds.{log_ends}
+use Rattle.call_cases.specs.meaning.Headline.{ReadsNothing}
+use Rattle.call_cases.specs.meaning.RunCommands.{commands}
+use Rattle.batch_calls.proofs.Answered.{log_headed, log_refused}
 use Rattle.batch_calls.proofs.log.log_rechecked.Goals as goal
 
 pub returns-in-Ok-clause-headline : goal.returns-in-Ok-clause-headline
 returns-in-Ok-clause-headline g c =
-    let request = c.in-Ok.request in
-    let out = change_of g.O.Sink.written g.O.Sink.faults c.args.out.now c.carry_rechecked.new.out in
-    let err = change_of g.E.Sink.written g.E.Sink.faults c.args.err.now c.carry_rechecked.new.err in
-    let logged = subst (λ asked. IfSome asked IsLogged) c.in-Ok.ensures.asked (log_asks (texts c.args.words.now)) in
-    log_headline commands log_sound (record { whole = log_for; taken = TakesLog }) (texts c.args.words.now)
-    (g.H.Shelf.files c.args.shelf.now) (g.H.Shelf.failed c.args.shelf.now) (g.H.Shelf.failed c.read_log.new.shelf) out err
-    c.carry_rechecked.result.0.status c.carry_rechecked.result.0.journal (files_read request.asked (program_in request))
-    (work_of request) request.asked refl
-    c.in-Ok.ensures.asked c.in-Ok.ensures.case c.in-Ok.ensures.shelf c.carry_rechecked.ensures.unjournalled
-    (λ is. let made = c.carry_rechecked.ensures.run is in (made.lawful, made.complete, made.retired))
-    (log_ends request.asked (work_of request) out err c.carry_rechecked.result.0.status c.carry_rechecked.result.0.journal request.asked.command
-    logged.command c.carry_rechecked.ensures.ends)
+    let words = texts c.args.words.now in
+    log_headed log_by words (g.H.Shelf.files c.args.shelf.now) (g.H.Shelf.failed c.args.shelf.now)
+    (g.H.Shelf.failed c.read_by.new.shelf) (c.read_by.new.shelf ≡ c.args.shelf.now)
+    (change_of g.O.Sink.written g.O.Sink.faults c.args.out.now c.carry_out.new.out)
+    (change_of g.E.Sink.written g.E.Sink.faults c.args.err.now c.carry_out.new.err)
+    c.carry_out.result.0.status c.carry_out.result.0.journal c.in-Ok.request
+    (c.in-Ok.ensures.answers log_by words c.read_log_words.ensures.asked) c.carry_out.ensures (log_asks words)
 
 pub returns-in-Err-clause-headline : goal.returns-in-Err-clause-headline
 returns-in-Err-clause-headline g c =
-    let err = change_of g.E.Sink.written g.E.Sink.faults c.args.err.now c.refused_outcome.new.err in
-    refused_headline commands log_sound (texts c.args.words.now) (g.H.Shelf.files c.args.shelf.now) (g.H.Shelf.failed c.args.shelf.now)
-    (g.H.Shelf.failed c.read_log.new.shelf)
-    (g.O.Sink.written c.args.out.now) (g.O.Sink.faults c.args.out.now) err c.refused_outcome.result.status
-    c.refused_outcome.result.journal c.in-Err.refusal
-    c.in-Err.ensures.no_command (λ nothing. ap g.H.Shelf.failed (c.in-Err.ensures.unread nothing)) c.in-Err.ensures.case
-    c.in-Err.ensures.shelf c.refused_outcome.ensures.empty c.refused_outcome.ensures.ends
+    let words = texts c.args.words.now in
+    log_refused log_by words (g.H.Shelf.files c.args.shelf.now) (g.H.Shelf.failed c.args.shelf.now)
+    (g.H.Shelf.failed c.read_by.new.shelf) (c.read_by.new.shelf ≡ c.args.shelf.now)
+    (g.O.Sink.written c.args.out.now) (g.O.Sink.faults c.args.out.now)
+    (change_of g.E.Sink.written g.E.Sink.faults c.args.err.now c.refused_outcome.new.err)
+    c.refused_outcome.result.status c.refused_outcome.result.journal c.in-Err.refusal
+    (c.in-Err.ensures.answers log_by words c.read_log_words.ensures.asked) (ap g.H.Shelf.failed) c.refused_outcome.ensures.empty
+    c.refused_outcome.ensures.ends
+
+pub returns-in-Ok-clause-unread : goal.returns-in-Ok-clause-unread
+returns-in-Ok-clause-unread g c = λ none.
+    (c.in-Ok.ensures.answers log_by (texts c.args.words.now) c.read_log_words.ensures.asked).unread
+    (subst (ReadsNothing commands) (sym none) tt)
+
+pub returns-in-Err-clause-unread : goal.returns-in-Err-clause-unread
+returns-in-Err-clause-unread g c = λ none.
+    (c.in-Err.ensures.answers log_by (texts c.args.words.now) c.read_log_words.ensures.asked).unread
+    (subst (ReadsNothing commands) (sym none) tt)

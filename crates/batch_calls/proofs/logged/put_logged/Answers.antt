@@ -1,6 +1,6 @@
 use Rattle.std.proofs.Common.{◌⊎◌, inl, ap, sym, subst, Err}
 use Rattle.call_cases.specs.meaning.Answers.{Fails, IsEmpty, change_of}
-use Rattle.batch_calls.specs.inner.Planned.{work_begun}
+use Rattle.batch_calls.specs.inner.Planned.{work_planned}
 use Rattle.batch_calls.specs.inner.Ran.{WritesLines}
 use Rattle.batch_calls.proofs.RanPieces.{stops_by, rose_later, rose_last, ran_without_first, ran_without_lines, ran_without_tail, ran_whole}
 use Rattle.batch_calls.proofs.LoggedPieces.{fails_later, logs_nothing, logs_before}
@@ -8,7 +8,7 @@ use Rattle.batch_calls.proofs.logged.put_logged.Goals as goal
 
 pub returns-in-Err-clause-text : goal.returns-in-Err-clause-text
 returns-in-Err-clause-text g c =
-    let work = work_begun c.args.asked.now c.args.checked.now c.args.begins in
+    let work = work_planned c.args.basis.now.plan.now c.args.begins in
     let out = change_of g.O.Sink.written g.O.Sink.faults c.args.out.now c.put_all.new.to in
     let log = change_of g.L.Sink.written g.L.Sink.faults c.args.log.now c.args.log.now in
     ran_without_first (Fails out ⊎ Fails log) work
@@ -19,13 +19,13 @@ returns-in-Err-clause-text g c =
 
 pub returns-in-Err-clause-log : goal.returns-in-Err-clause-log
 returns-in-Err-clause-log g c =
-    let work = work_begun c.args.asked.now c.args.checked.now c.args.begins in
+    let work = work_planned c.args.basis.now.plan.now c.args.begins in
     logs_nothing work (g.L.Sink.written c.args.log.now) (g.L.Sink.faults c.args.log.now) c.stopped.result
     (subst IsEmpty (sym c.stopped.ensures.journal) c.empty_journal.ensures)
 
 pub returns-in-Err-put_noted-clause-text : goal.returns-in-Err-put_noted-clause-text
 returns-in-Err-put_noted-clause-text g c =
-    let work = work_begun c.args.asked.now c.args.checked.now c.args.begins in
+    let work = work_planned c.args.basis.now.plan.now c.args.begins in
     let written = g.O.Sink.written in
     let faults = g.O.Sink.faults in
     let log = change_of g.L.Sink.written g.L.Sink.faults c.args.log.now c.put_noted.new.log in
@@ -40,7 +40,7 @@ returns-in-Err-put_noted-clause-text g c =
 
 pub returns-in-Ok-put_tail-clause-text : goal.returns-in-Ok-put_tail-clause-text
 returns-in-Ok-put_tail-clause-text g c =
-    let work = work_begun c.args.asked.now c.args.checked.now c.args.begins in
+    let work = work_planned c.args.basis.now.plan.now c.args.begins in
     let written = g.O.Sink.written in
     let faults = g.O.Sink.faults in
     let log = change_of g.L.Sink.written g.L.Sink.faults c.args.log.now c.put_noted.new.log in
@@ -59,7 +59,7 @@ returns-in-Ok-put_tail-clause-log g c = c.in-Ok-put_noted.ensures.log
 
 pub returns-in-Err-put_tail-clause-text : goal.returns-in-Err-put_tail-clause-text
 returns-in-Err-put_tail-clause-text g c =
-    let work = work_begun c.args.asked.now c.args.checked.now c.args.begins in
+    let work = work_planned c.args.basis.now.plan.now c.args.begins in
     let written = g.O.Sink.written in
     let faults = g.O.Sink.faults in
     let log = change_of g.L.Sink.written g.L.Sink.faults c.args.log.now c.put_noted.new.log in
@@ -78,7 +78,7 @@ returns-in-Err-put_tail-clause-text g c =
 
 pub returns-in-Err-put_tail-clause-log : goal.returns-in-Err-put_tail-clause-log
 returns-in-Err-put_tail-clause-log g c =
-    let work = work_begun c.args.asked.now c.args.checked.now c.args.begins in
+    let work = work_planned c.args.basis.now.plan.now c.args.begins in
     let log = change_of g.L.Sink.written g.L.Sink.faults c.args.log.now c.put_noted.new.log in
     logs_before work log c.in-Ok-put_noted.report c.stopped-in-Err-put_tail.result c.in-Ok-put_noted.ensures.log
     c.stopped-in-Err-put_tail.ensures.journal

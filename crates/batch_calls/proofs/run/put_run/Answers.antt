@@ -1,12 +1,12 @@
 use Rattle.std.proofs.Common.{ap, Err}
-use Rattle.batch_calls.specs.inner.Planned.{work_begun}
+use Rattle.batch_calls.specs.inner.Planned.{work_planned}
 use Rattle.call_cases.specs.meaning.Answers.{Fails, change_of}
 use Rattle.batch_calls.proofs.RanPieces.{stops_by, rose_later, rose_last, ran_without_first, ran_without_lines, ran_without_tail, ran_whole}
 use Rattle.batch_calls.proofs.run.put_run.Goals as goal
 
 pub returns-in-Err : goal.returns-in-Err
 returns-in-Err g c =
-    let work = work_begun c.args.asked.now c.args.checked.now c.args.begins in
+    let work = work_planned c.args.basis.now.plan.now c.args.begins in
     let out = change_of g.O.Sink.written g.O.Sink.faults c.args.out.now c.put_all.new.to in
     ran_without_first (Fails out) work c.requires.lines out c.stopped.result c.empty_journal.result
     c.in-Err.fault c.empty_journal.ensures
@@ -16,7 +16,7 @@ returns-in-Err g c =
 
 pub returns-in-Err-put_lines : goal.returns-in-Err-put_lines
 returns-in-Err-put_lines g c =
-    let work = work_begun c.args.asked.now c.args.checked.now c.args.begins in
+    let work = work_planned c.args.basis.now.plan.now c.args.begins in
     let written = g.O.Sink.written in
     let faults = g.O.Sink.faults in
     ran_without_lines (Fails (change_of written faults c.args.out.now c.put_lines.new.out)) work c.requires.lines
@@ -28,7 +28,7 @@ returns-in-Err-put_lines g c =
 
 pub returns-in-Ok-put_tail : goal.returns-in-Ok-put_tail
 returns-in-Ok-put_tail g c =
-    let work = work_begun c.args.asked.now c.args.checked.now c.args.begins in
+    let work = work_planned c.args.basis.now.plan.now c.args.begins in
     let written = g.O.Sink.written in
     let faults = g.O.Sink.faults in
     ran_whole (Fails (change_of written faults c.args.out.now c.put_tail.new.out)) work c.requires.lines
@@ -39,7 +39,7 @@ returns-in-Ok-put_tail g c =
 
 pub returns-in-Err-put_tail : goal.returns-in-Err-put_tail
 returns-in-Err-put_tail g c =
-    let work = work_begun c.args.asked.now c.args.checked.now c.args.begins in
+    let work = work_planned c.args.basis.now.plan.now c.args.begins in
     let written = g.O.Sink.written in
     let faults = g.O.Sink.faults in
     ran_without_tail (Fails (change_of written faults c.args.out.now c.put_tail.new.out)) work c.requires.lines

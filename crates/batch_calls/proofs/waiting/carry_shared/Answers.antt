@@ -1,5 +1,5 @@
 use Rattle.call_cases.specs.Decided.{work_of}
-use Rattle.batch_calls.proofs.crews.carry_rechecked.Goals as goal
+use Rattle.batch_calls.proofs.waiting.carry_shared.Goals as goal
 
 pub returns-in-Err : goal.returns-in-Err
 returns-in-Err g c =

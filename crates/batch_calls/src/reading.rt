@@ -1,0 +1,30 @@
+// What words ask for, however they are read.
+ghost use Rattle.std.specs.Prelude.{◌≡◌, ℕ, List, Option, IfOk, IfSome};
+ghost use Rattle.command_line.specs.Words.{IsWithinLimits};
+ghost use Rattle.command_line.specs.declared.asked.Asked.{Asked};
+ghost use Rattle.call_cases.specs.Decided.{MayRun};
+ghost use Rattle.batch_calls.specs.inner.Reading.{Answers};
+
+use call_cases::{Refusal, Request, read_for};
+use command_line::Asked;
+use gp_base::Shelf;
+use std::alloc::{AllocError, Global};
+
+/// What words ask for that were read to this, with the program that they name and the files that the program names, or
+/// with the files that the program makes itself. The first refusal met is the answer.
+pub fn read_by<H: Shelf>(
+    alloc: Global,
+    read: Result<Option<Asked>, AllocError>,
+    shelf: &mut H,
+) -> Result<Request, Refusal>
+    requires { IfOk read (λ asked. IfSome asked IsWithinLimits) }
+    ensures sound { IfOk result MayRun }
+    ensures answers { (reading : List (List ℕ) → Option Asked) (words : List (List ℕ)) → IfOk read (λ asked. asked ≡ reading words) →
+        Answers reading words (H.files shelf.old) (H.failed shelf.old) (H.failed shelf.new) (shelf.new ≡ shelf.old) result }
+{
+    match read {
+        Ok(Some(asked)) => read_for(alloc, asked, shelf),
+        Ok(None) => Err(Refusal::Usage),
+        Err(_) => Err(Refusal::OutOfMemory),
+    }
+}
