@@ -1,15 +1,13 @@
 // What to write instead, told in the last line of a refusal.
-use crate::shown::told;
-use std::alloc::{AllocError, Global};
+use crate::shown::{Case, first_without};
 use std::test::Fail;
-use task_ast::CheckKind::UnknownName;
-
-// A statement, or a beginning of a program, and its hint.
-type Case = (&'static [u8], &'static [u8]);
 
 // What stands before the statement, whose line is the ninth.
 const BEFORE: &[u8] =
     b"lock bank[4];\nrecord acct[4] by bank;\nfeed moves[2] from \"moves.csv\";\nbarrier step(2);\ntask t(n) {\n}\ntask main() {\n  var i, j, $x;\n";
+
+// What stands after it.
+const AFTER: &[u8] = b"\n}\n";
 
 const STATEMENTS: [Case; 48] = [
     (
@@ -61,7 +59,10 @@ const STATEMENTS: [Case; 48] = [
     (b"i = read acct[i];", b"write `read r[i] into $x;`"),
     (b"read $x from acct[i];", b"write `read r[i] into $x;`"),
     (b"write acct[i], 5;", b"write `write r[i] = e;`"),
-    (b"i, j = 1, 2;", b"a statement sets one variable"),
+    (
+        b"i, j = 1, 2;",
+        b"one statement sets one variable: write two, as `n = 3; i = n;`",
+    ),
     (
         b"acct[i] = 3;",
         b"a cell of a record is written by `write r[i] = e;`",
@@ -221,7 +222,7 @@ const MORE_STATEMENTS: [Case; 46] = [
     ),
     (b"i = 1; -- note", b"a comment begins with `#`"),
     (b"% note", b"a comment begins with `#`"),
-    (b"--i;", b"write `i = i + 1;`"),
+    (b"--i;", b"write `i = i - 1;`"),
     (
         b"read moves[i, 1] into $x;",
         b"a cell of a feed stands in an expression: `$x = f[i, 0];`",
@@ -238,7 +239,7 @@ const MORE_STATEMENTS: [Case; 46] = [
     (b"my-sum = 3;", b"a name has letters, digits and `_`"),
 ];
 
-const TOPS: [Case; 23] = [
+const TOPS: [Case; 28] = [
     (
         b"record lock[4] by l;",
         b"`lock` is a word of the language: take another name",
@@ -310,56 +311,153 @@ const TOPS: [Case; 23] = [
         b"all values are whole numbers: write `var x;`, and names without a type",
     ),
     (b"-- note", b"a comment begins with `#`"),
+    (b"lock l[3] { }", b"a head has no block, and ends with `;`"),
+    (
+        b"var i;",
+        b"variables are those of a task: `task main() { var i; .. }`",
+    ),
+    (
+        b"import accounts;",
+        b"a program is one text: there is nothing to bring in",
+    ),
+    (
+        b"struct account { }",
+        b"several numbers of one thing are several records under one lock array",
+    ),
+    (
+        b"array a[3];",
+        b"cells that are written are a record under its locks: `lock l[4]; record r[4] by l;`",
+    ),
 ];
 
-// Whether a text ends with this hint, in a line of its own.
-fn ends_with_hint(alloc: Global, text: &[u8], hint: &[u8]) -> Result<bool, AllocError> {
-    let mut last = Vec::from_slice(alloc, b"\nhint: ")?;
-    last.extend_from_slice(hint)?;
-    last.extend_from_slice(b"\n")?;
-    Ok(text.ends_with(&last))
-}
-
-// What is told of a program with this statement.
-fn told_of(alloc: Global, statement: &[u8]) -> Result<Vec<u8>, AllocError> {
-    let mut program = Vec::from_slice(alloc, BEFORE)?;
-    program.extend_from_slice(statement)?;
-    program.extend_from_slice(b"\n}\n")?;
-    told(alloc, &program, UnknownName, 9)
-}
+// Statements that set twice, that have a block here or there, or words of other languages.
+const OTHER_STATEMENTS: [Case; 37] = [
+    (
+        b"i = n = first;",
+        b"one statement sets one variable: write two, as `n = 3; i = n;`",
+    ),
+    (
+        b"$x = $y = 3;",
+        b"one statement sets one variable: write two, as `n = 3; i = n;`",
+    ),
+    (
+        b"write acct[0] = $x = 3;",
+        b"one statement sets one variable: write two, as `n = 3; i = n;`",
+    ),
+    (b"if i = 3 { }", b"`==` compares, and `=` sets"),
+    (b"while i = 3 { }", b"`==` compares, and `=` sets"),
+    (b"when $x = 3 { }", b"`==` compares, and `=` sets"),
+    (b"print i = 3;", b"`==` compares, and `=` sets"),
+    (
+        b"fork t(n = 3);",
+        b"arguments have no names: they stand in the order of the parameters of the task",
+    ),
+    (
+        b"if i { } else when $x { }",
+        b"write `else { when e { .. } }`",
+    ),
+    (
+        b"when $x { } else if $x { }",
+        b"write `else { when e { .. } }`",
+    ),
+    (
+        b"when $x { when $x { } } else { } if i { when $x { } } else if i { }",
+        b"write `else { if e { .. } }`",
+    ),
+    (
+        b"if i { } else while i { }",
+        b"a block stands between `{` and `}`",
+    ),
+    (
+        b"lock bank[i] { }",
+        b"a lock has no block: write `lock l[i]; .. unlock l[i];`",
+    ),
+    (
+        b"lock bank[i]\n{ }",
+        b"a lock has no block: write `lock l[i]; .. unlock l[i];`",
+    ),
+    (
+        b"lock bank { }",
+        b"a lock has no block: write `lock l[i]; .. unlock l[i];`",
+    ),
+    (
+        b"fork t(1) { }",
+        b"a fork has no block: what a thread does is a task, `task t(x) { .. }`",
+    ),
+    (b"with bank[i] { }", b"write `lock l[i]; .. unlock l[i];`"),
+    (
+        b"with lock bank[i] { }",
+        b"write `lock l[i]; .. unlock l[i];`",
+    ),
+    (
+        b"do { } while i;",
+        b"write `i = 0; while i < n { .. i = i + 1; }`",
+    ),
+    (
+        b"until i > 3 { }",
+        b"write `i = 0; while i < n { .. i = i + 1; }`",
+    ),
+    (b"i %= 3;", b"write `i = i % 2;`"),
+    (b"i -= 3;", b"write `i = i - 1;`"),
+    (b"i *= 3;", b"write `i = i * 2;`"),
+    (b"i /= 3;", b"write `i = i / 2;`"),
+    (b"i--;", b"write `i = i - 1;`"),
+    (b"i = j--;", b"write `i = i - 1;`"),
+    (b"i = j++;", b"write `i = i + 1;`"),
+    (b"i = +3;", b"no `+` stands before a number: leave it out"),
+    (b"unless i { }", b"write `if not (e) { .. }`"),
+    (
+        b"try { }",
+        b"there are no exceptions: an `if` tests before, and a `print` tells",
+    ),
+    (b"pass;", b"a block may be empty: `{ }`"),
+    (b"call t(1);", b"`fork t(e) into h;` starts a thread"),
+    (
+        b"procedure f() { }",
+        b"write `task t(x) { .. }`, outside of other tasks",
+    ),
+    (
+        b"print i j;",
+        b"values stand between commas: write `print e, g;`",
+    ),
+    (
+        b"fork t(1 2);",
+        b"arguments stand between commas: write `fork t(e, g);`",
+    ),
+    (
+        b"i = undefined;",
+        b"every value is a number: `0`, or one that is nowhere else used, stands for none",
+    ),
+    (
+        b"int k = 3;",
+        b"write `var x;` before the first statement of the task, and then `x = 3;`",
+    ),
+];
 
 #[test]
 fn statements_in_other_words(rt: HostRuntime) -> Result<(), Fail> {
-    let alloc = rt.alloc();
-    for (statement, hint) in &STATEMENTS {
-        let text = told_of(alloc, statement)?;
-        if !ends_with_hint(alloc, &text, hint)? {
-            assert_eq!(rt; text.as_slice(), *hint);
-        }
-    }
+    let text = first_without(rt.alloc(), BEFORE, &STATEMENTS, AFTER)?;
+    assert_eq!(rt; text.as_slice(), b"".as_slice());
     Ok(())
 }
 
 #[test]
 fn more_statements_in_other_words(rt: HostRuntime) -> Result<(), Fail> {
-    let alloc = rt.alloc();
-    for (statement, hint) in &MORE_STATEMENTS {
-        let text = told_of(alloc, statement)?;
-        if !ends_with_hint(alloc, &text, hint)? {
-            assert_eq!(rt; text.as_slice(), *hint);
-        }
-    }
+    let text = first_without(rt.alloc(), BEFORE, &MORE_STATEMENTS, AFTER)?;
+    assert_eq!(rt; text.as_slice(), b"".as_slice());
+    Ok(())
+}
+
+#[test]
+fn other_statements_in_other_words(rt: HostRuntime) -> Result<(), Fail> {
+    let text = first_without(rt.alloc(), BEFORE, &OTHER_STATEMENTS, AFTER)?;
+    assert_eq!(rt; text.as_slice(), b"".as_slice());
     Ok(())
 }
 
 #[test]
 fn heads_in_other_words(rt: HostRuntime) -> Result<(), Fail> {
-    let alloc = rt.alloc();
-    for (program, hint) in &TOPS {
-        let text = told(alloc, program, UnknownName, 1)?;
-        if !ends_with_hint(alloc, &text, hint)? {
-            assert_eq!(rt; text.as_slice(), *hint);
-        }
-    }
+    let text = first_without(rt.alloc(), b"", &TOPS, b"")?;
+    assert_eq!(rt; text.as_slice(), b"".as_slice());
     Ok(())
 }

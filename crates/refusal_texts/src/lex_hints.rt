@@ -2,6 +2,7 @@
 
 use crate::foreign::{BLOCK, beginning};
 use crate::hints::{COMMENT, hint_line};
+use crate::odd_bytes::{Place, UTF_16, is_utf_16, push_odd};
 use std::alloc::{AllocError, Global};
 use text_places::{is_quoted_at, line_before};
 
@@ -154,7 +155,7 @@ fn byte_hint(program: &[u8], at: usize) -> Option<&'static [u8]> {
         b'&' => Some(b"`d and e` is what other languages write `d && e`"),
         b'|' => Some(b"`d or e` is what other languages write `d || e`"),
         b'$' => Some(b"the name of a data variable follows its `$` directly"),
-        b'\'' => Some(
+        b'\'' | b'`' => Some(
             b"there are numbers alone, and texts in double quotes for the names of files",
         ),
         b':' => colon_hint(program, at),
@@ -165,14 +166,28 @@ fn byte_hint(program: &[u8], at: usize) -> Option<&'static [u8]> {
     }
 }
 
-/// The hints on a byte that can't stand where it is shown.
-pub fn lex_hints(alloc: Global, program: &[u8], at: usize) -> Result<Vec<u8>, AllocError> {
-    let hint: Option<&[u8]> = if is_after_slashes(program, at) {
-        Some(COMMENT)
-    } else if is_quoted_at(program, at) {
+// What is told of a byte outside of a text in quotes, or in one.
+fn plain_hint(program: &[u8], at: usize) -> Option<&'static [u8]> {
+    if is_quoted_at(program, at) {
         Some(b"a text in quotes is the name of a file, and ends in its line")
     } else {
         byte_hint(program, at)
-    };
-    hint_line(alloc, hint)
+    }
+}
+
+/// The hints on a byte that can't stand where it is shown.
+pub fn lex_hints(alloc: Global, program: &[u8], at: usize) -> Result<Vec<u8>, AllocError> {
+    if is_utf_16(program) {
+        return hint_line(alloc, Some(UTF_16));
+    }
+    if is_after_slashes(program, at) {
+        return hint_line(alloc, Some(COMMENT));
+    }
+    let mut text = Vec::new(alloc);
+    if let Some(rest) = program.get(at..) {
+        if push_odd(&mut text, rest, Place::Program)? {
+            return Ok(text);
+        }
+    }
+    hint_line(alloc, plain_hint(program, at))
 }
