@@ -331,7 +331,27 @@ const TOPS: [Case; 28] = [
 ];
 
 // Statements that set twice, that have a block here or there, or words of other languages.
-const OTHER_STATEMENTS: [Case; 37] = [
+const OTHER_STATEMENTS: [Case; 42] = [
+    (
+        b"lock bank[i] do",
+        b"a lock has no block: write `lock l[i]; .. unlock l[i];`",
+    ),
+    (
+        b"i = 1.000;",
+        b"a number has digits alone, as `1000`; amounts are written in cents",
+    ),
+    (
+        b"i = 1'000;",
+        b"a number has digits alone, as `1000`; amounts are written in cents",
+    ),
+    (
+        b"i = 5%;",
+        b"`a % b` is the rest of a division; rates are whole numbers in a smaller unit",
+    ),
+    (
+        b"join t;",
+        b"t is a task: the variable after the `into` of a fork is the number of its thread",
+    ),
     (
         b"i = n = first;",
         b"one statement sets one variable: write two, as `n = 3; i = n;`",

@@ -220,17 +220,15 @@ pub fn field_hint(field: &[u8]) -> Option<&'static [u8]> {
     let inner = trimmed(field);
     if inner.is_empty() {
         Some(BLANK)
+    } else if is_whole(inner) {
+        Some(b"blanks beside a number have to go")
     } else if quote_hint(inner).is_some() {
         quote_hint(inner)
     } else if has_currency(inner) {
         Some(CURRENCY)
     } else if around_hint(inner).is_some() {
         around_hint(inner)
-    } else if amount_hint(inner).is_some() {
-        amount_hint(inner)
-    } else if inner.len() < field.len() && is_whole(inner) {
-        Some(b"blanks beside a number have to go")
     } else {
-        None
+        amount_hint(inner)
     }
 }

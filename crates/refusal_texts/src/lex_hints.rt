@@ -8,6 +8,8 @@ use text_places::{is_quoted_at, line_before};
 
 const CENTS: &[u8] = b"numbers are whole: write amounts in cents";
 
+const GROUPED: &[u8] = b"a number has digits alone, as `1000`; amounts are written in cents";
+
 const ROWS: &[u8] = b"no name has fields: `rows(f)` is the number of rows of feed f";
 
 const FIELDS: &[u8] =
@@ -31,6 +33,15 @@ fn is_digit(byte: Option<&u8>) -> bool {
 
 fn is_letter(byte: Option<&u8>) -> bool {
     matches!(byte, Some(byte) if byte.is_ascii_alphabetic() || *byte == b'_')
+}
+
+// Whether a digit stands before a place, and three and no more after the byte there, as around a mark between thousands.
+fn is_between_thousands(program: &[u8], at: usize) -> bool {
+    let digits = match program.get(at.saturating_add(1)..) {
+        Some(rest) => rest.iter().take_while(|byte| byte.is_ascii_digit()).count(),
+        None => 0,
+    };
+    digits == 3 && is_digit(program.get(at.saturating_sub(1)))
 }
 
 // Whether a word stands at the front.
@@ -65,6 +76,8 @@ fn point_hint(program: &[u8], at: usize) -> &'static [u8] {
         b"the name of a file stands in double quotes"
     } else if before == Some(&b'.') || after == Some(&b'.') {
         b"there are no ranges: write `i = 0; while i < n { .. i = i + 1; }`"
+    } else if is_between_thousands(program, at) {
+        GROUPED
     } else if is_digit(before) || is_digit(after) {
         CENTS
     } else if begins_with(rest, &counts) {
@@ -155,6 +168,7 @@ fn byte_hint(program: &[u8], at: usize) -> Option<&'static [u8]> {
         b'&' => Some(b"`d and e` is what other languages write `d && e`"),
         b'|' => Some(b"`d or e` is what other languages write `d || e`"),
         b'$' => Some(b"the name of a data variable follows its `$` directly"),
+        b'\'' if is_between_thousands(program, at) => Some(GROUPED),
         b'\'' | b'`' => Some(
             b"there are numbers alone, and texts in double quotes for the names of files",
         ),

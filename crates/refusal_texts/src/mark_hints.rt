@@ -126,6 +126,8 @@ impl<'a> Spot<'a> {
             Some(b"no `;` stands after a block")
         } else if self.kind_before() == Some(MINUS) && is_after_minus {
             Some(changed(MINUS))
+        } else if self.kind_before() == Some(PERCENT) {
+            Some(b"`a % b` is the rest of a division; rates are whole numbers in a smaller unit")
         } else {
             None
         }

@@ -10,6 +10,9 @@ use task_parser::{Kind, Token};
 impl<'a> Spot<'a> {
     // What is told of a form.
     fn form_hint(&self) -> Option<&'static [u8]> {
+        if let Some(hint) = self.opening_hint() {
+            return Some(hint);
+        }
         if let Some(hint) = self.foreign_hint() {
             return Some(hint);
         }
@@ -46,9 +49,6 @@ impl<'a> Spot<'a> {
         }
         if let Some(hint) = self.bracket_hint() {
             return Some(hint);
-        }
-        if let Some(hint) = self.opening_hint() {
-            return Some(Hint::Fixed(hint));
         }
         if let Some(hint) = self.missing_hint() {
             return Some(hint);

@@ -47,10 +47,22 @@ impl<'a> Spot<'a> {
         }
     }
 
-    /// A `{` after a statement that has no block.
+    // Whether a block begins at this token, here or in other languages.
+    fn opens(&self) -> bool {
+        let words: [&[u8]; 3] = [b"do", b"begin", b"then"];
+        let word = self.bytes(self.back(0));
+        for other in &words {
+            if **other == *word {
+                return true;
+            }
+        }
+        self.kind() == Some(OPEN_BLOCK)
+    }
+
+    /// The beginning of a block after a statement that has none.
     pub fn opening_hint(&self) -> Option<&'static [u8]> {
-        let is_open = self.has(SEMICOLON) || self.wants(OPEN_BRACKET);
-        if self.kind()? != OPEN_BLOCK || !is_open {
+        let is_end = self.has(SEMICOLON) || self.wants(OPEN_BRACKET);
+        if !is_end || !self.opens() {
             return None;
         }
         if !self.is_after_task() {
