@@ -11,7 +11,13 @@ use task_parser::{lex, parse};
 // The file of a record of 40 cells, its rule and its row, and the hint.
 type Case = (&'static [u8], FileKind, u32, &'static [u8]);
 
-const ROWS: [Case; 43] = [
+const ROWS: [Case; 44] = [
+    (
+        b"0,5\n\x1a",
+        Fields,
+        2,
+        b"a control character (byte 1A) stands in the field: take it out",
+    ),
     (
         b"#0,1\n",
         Number,
@@ -49,7 +55,7 @@ const ROWS: [Case; 43] = [
         b"0,1,000\n",
         Fields,
         1,
-        b"a comma inside of a number ends a field: 1,000 is written 1000, and 12,50 in cents 1250",
+        b"where a comma stands inside of a number it ends a field: 1,000 is written 1000, and 12,50 in cents 1250",
     ),
     (
         b"0,\"1,000\"\n",

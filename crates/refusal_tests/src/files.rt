@@ -102,7 +102,7 @@ const FILES: [Case; 26] = [
         b"0,1,2\n",
         Fields,
         1,
-        b"f.csv:1: 3 fields, and not 2 (kind 1 row 1)\n0,1,2\n    ^\nhint: a comma inside of a number ends a field: 1,000 is written 1000, and 12,50 in cents 1250\n",
+        b"f.csv:1: 3 fields, and not 2 (kind 1 row 1)\n0,1,2\n    ^\nhint: where a comma stands inside of a number it ends a field: 1,000 is written 1000, and 12,50 in cents 1250\n",
     ),
     (
         Used::Record,
@@ -186,7 +186,7 @@ const FILES: [Case; 26] = [
         b"1,1,1,1\n",
         Fields,
         1,
-        b"f.csv:1: 4 fields, and not 3 (kind 1 row 1)\n1,1,1,1\n      ^\nhint: a comma inside of a number ends a field: 1,000 is written 1000, and 12,50 in cents 1250\n",
+        b"f.csv:1: 4 fields, and not 3 (kind 1 row 1)\n1,1,1,1\n      ^\nhint: where a comma stands inside of a number it ends a field: 1,000 is written 1000, and 12,50 in cents 1250\n",
     ),
     (
         Used::Feed,

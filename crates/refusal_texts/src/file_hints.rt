@@ -105,7 +105,7 @@ fn count_hint(row: &ByteRecord, used: FileUse<'_>) -> Option<&'static [u8]> {
         Some(b"the comma at the end of the line has to go")
     } else if count > wanted && has_numbers(row) {
         Some(
-            b"a comma inside of a number ends a field: 1,000 is written 1000, and 12,50 in cents 1250",
+            b"where a comma stands inside of a number it ends a field: 1,000 is written 1000, and 12,50 in cents 1250",
         )
     } else if count == 1 && has_byte(last, b' ') {
         Some(b"fields stand between commas, and not between blanks")
@@ -123,6 +123,9 @@ fn push_count_hint(text: &mut Vec<u8>, refused: Refused<'_>) -> Result<(), Alloc
     }
     if let Some(hint) = line_hint(refused.row, refused.number) {
         return push_told(text, hint);
+    }
+    if refused.row.len() == 1 && push_odd_in(text, bytes_in(refused.row, 0))? {
+        return Ok(());
     }
     match count_hint(refused.row, refused.used) {
         Some(hint) => push_told(text, hint),
