@@ -14,6 +14,8 @@ mod instead;
 #[cfg(test)]
 mod odd_bytes;
 #[cfg(test)]
+mod other_statements;
+#[cfg(test)]
 mod places;
 #[cfg(test)]
 mod shown;

@@ -12,6 +12,13 @@ use task_parser::{lex, parse};
 /// A part of a program, and its hint.
 pub type Case = (&'static [u8], &'static [u8]);
 
+/// What stands before a statement in line 9.
+pub const BEFORE: &[u8] =
+    b"lock bank[4];\nrecord acct[4] by bank;\nfeed moves[2] from \"moves.csv\";\nbarrier step(2);\ntask t(n) {\n}\ntask main() {\n  var i, j, $x;\n";
+
+/// What stands after it.
+pub const AFTER: &[u8] = b"\n}\n";
+
 // The length of a text from which on nothing is told of it.
 const TOO_LONG: usize = 2147483648;
 

@@ -220,7 +220,8 @@ fn line_at(bytes: &[u8], place: Option<RowPlace>) -> &[u8] {
 }
 
 /// Appends why a file is refused at a row: the name of the file, the line of the row, what is said of the row, the rule
-/// and the row, the line itself with a mark under the field, and hints. Where the line can't be found it is left out. The only error is out of memory.
+/// and the row, the line itself with a mark under the field, and hints. Where the line can't be found it is left out.
+/// The only error is out of memory.
 pub fn push_file_refusal(
     alloc: Global,
     text: &mut Vec<u8>,
