@@ -49,7 +49,7 @@ const LEXING: [Case; 11] = [
         b"task main() {\n  var i, $x;\n  i = 1; # \xc3\xa9\n  i = \xc3\xa9;\n}\n",
         UnknownName,
         1,
-        b"p.gp:4:7: byte 195 cannot stand here\n  i = \xc3\xa9;\n      ^\nlex 1: outside of comments a text has ASCII letters, digits and the marks of the language (lex 1 at byte 47)\n",
+        b"p.gp:4:7: byte 195 cannot stand here\n  i = \xc3\xa9;\n      ^\nlex 1: outside of comments a text has ASCII letters, digits and the marks of the language (lex 1 at byte 47)\nhint: a character outside of ASCII (bytes C3 A9) stands here: names have ASCII letters, digits and `_`; any text may stand in a comment\n",
     ),
     (
         b"task main() {\n  var i, $x;\n  $ x = 1;\n}\n",
@@ -125,7 +125,7 @@ const PARSING: [Case; 25] = [
         b"task main() {\n  var i, $x;\n  fork t(1 2);\n}\n",
         UnknownName,
         1,
-        b"p.gp:3:12: `2` cannot stand here; `)`, `,` or an operator was expected\n  fork t(1 2);\n           ^\nparse 1: the first token that no program goes on with (parse 1 at byte 38)\n",
+        b"p.gp:3:12: `2` cannot stand here; `)`, `,` or an operator was expected\n  fork t(1 2);\n           ^\nparse 1: the first token that no program goes on with (parse 1 at byte 38)\nhint: arguments stand between commas: write `fork t(e, g);`\n",
     ),
     (
         b"task main() {\n  var i, $x;\n  lock l[$x];\n}\n",

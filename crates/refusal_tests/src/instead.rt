@@ -1,15 +1,6 @@
 // What to write instead, told in the last line of a refusal.
-use crate::shown::told;
-use std::alloc::{AllocError, Global};
+use crate::shown::{AFTER, BEFORE, Case, first_without};
 use std::test::Fail;
-use task_ast::CheckKind::UnknownName;
-
-// A statement, or a beginning of a program, and its hint.
-type Case = (&'static [u8], &'static [u8]);
-
-// What stands before the statement, whose line is the ninth.
-const BEFORE: &[u8] =
-    b"lock bank[4];\nrecord acct[4] by bank;\nfeed moves[2] from \"moves.csv\";\nbarrier step(2);\ntask t(n) {\n}\ntask main() {\n  var i, j, $x;\n";
 
 const STATEMENTS: [Case; 48] = [
     (
@@ -61,7 +52,10 @@ const STATEMENTS: [Case; 48] = [
     (b"i = read acct[i];", b"write `read r[i] into $x;`"),
     (b"read $x from acct[i];", b"write `read r[i] into $x;`"),
     (b"write acct[i], 5;", b"write `write r[i] = e;`"),
-    (b"i, j = 1, 2;", b"a statement sets one variable"),
+    (
+        b"i, j = 1, 2;",
+        b"one statement sets one variable: write two, as `n = 3; i = n;`",
+    ),
     (
         b"acct[i] = 3;",
         b"a cell of a record is written by `write r[i] = e;`",
@@ -221,7 +215,7 @@ const MORE_STATEMENTS: [Case; 46] = [
     ),
     (b"i = 1; -- note", b"a comment begins with `#`"),
     (b"% note", b"a comment begins with `#`"),
-    (b"--i;", b"write `i = i + 1;`"),
+    (b"--i;", b"write `i = i - 1;`"),
     (
         b"read moves[i, 1] into $x;",
         b"a cell of a feed stands in an expression: `$x = f[i, 0];`",
@@ -238,7 +232,7 @@ const MORE_STATEMENTS: [Case; 46] = [
     (b"my-sum = 3;", b"a name has letters, digits and `_`"),
 ];
 
-const TOPS: [Case; 23] = [
+const TOPS: [Case; 28] = [
     (
         b"record lock[4] by l;",
         b"`lock` is a word of the language: take another name",
@@ -310,56 +304,42 @@ const TOPS: [Case; 23] = [
         b"all values are whole numbers: write `var x;`, and names without a type",
     ),
     (b"-- note", b"a comment begins with `#`"),
+    (b"lock l[3] { }", b"a head has no block, and ends with `;`"),
+    (
+        b"var i;",
+        b"variables are those of a task: `task main() { var i; .. }`",
+    ),
+    (
+        b"import accounts;",
+        b"a program is one text: there is nothing to bring in",
+    ),
+    (
+        b"struct account { }",
+        b"several numbers of one thing are several records under one lock array",
+    ),
+    (
+        b"array a[3];",
+        b"cells that are written are a record under its locks: `lock l[4]; record r[4] by l;`",
+    ),
 ];
-
-// Whether a text ends with this hint, in a line of its own.
-fn ends_with_hint(alloc: Global, text: &[u8], hint: &[u8]) -> Result<bool, AllocError> {
-    let mut last = Vec::from_slice(alloc, b"\nhint: ")?;
-    last.extend_from_slice(hint)?;
-    last.extend_from_slice(b"\n")?;
-    Ok(text.ends_with(&last))
-}
-
-// What is told of a program with this statement.
-fn told_of(alloc: Global, statement: &[u8]) -> Result<Vec<u8>, AllocError> {
-    let mut program = Vec::from_slice(alloc, BEFORE)?;
-    program.extend_from_slice(statement)?;
-    program.extend_from_slice(b"\n}\n")?;
-    told(alloc, &program, UnknownName, 9)
-}
 
 #[test]
 fn statements_in_other_words(rt: HostRuntime) -> Result<(), Fail> {
-    let alloc = rt.alloc();
-    for (statement, hint) in &STATEMENTS {
-        let text = told_of(alloc, statement)?;
-        if !ends_with_hint(alloc, &text, hint)? {
-            assert_eq!(rt; text.as_slice(), *hint);
-        }
-    }
+    let text = first_without(rt.alloc(), BEFORE, &STATEMENTS, AFTER)?;
+    assert_eq!(rt; text.as_slice(), b"".as_slice());
     Ok(())
 }
 
 #[test]
 fn more_statements_in_other_words(rt: HostRuntime) -> Result<(), Fail> {
-    let alloc = rt.alloc();
-    for (statement, hint) in &MORE_STATEMENTS {
-        let text = told_of(alloc, statement)?;
-        if !ends_with_hint(alloc, &text, hint)? {
-            assert_eq!(rt; text.as_slice(), *hint);
-        }
-    }
+    let text = first_without(rt.alloc(), BEFORE, &MORE_STATEMENTS, AFTER)?;
+    assert_eq!(rt; text.as_slice(), b"".as_slice());
     Ok(())
 }
 
 #[test]
 fn heads_in_other_words(rt: HostRuntime) -> Result<(), Fail> {
-    let alloc = rt.alloc();
-    for (program, hint) in &TOPS {
-        let text = told(alloc, program, UnknownName, 1)?;
-        if !ends_with_hint(alloc, &text, hint)? {
-            assert_eq!(rt; text.as_slice(), *hint);
-        }
-    }
+    let text = first_without(rt.alloc(), b"", &TOPS, b"")?;
+    assert_eq!(rt; text.as_slice(), b"".as_slice());
     Ok(())
 }

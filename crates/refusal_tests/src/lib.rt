@@ -4,11 +4,17 @@
 #[cfg(test)]
 mod checks;
 #[cfg(test)]
+mod field_hints;
+#[cfg(test)]
 mod files;
 #[cfg(test)]
 mod forms;
 #[cfg(test)]
 mod instead;
+#[cfg(test)]
+mod odd_bytes;
+#[cfg(test)]
+mod other_statements;
 #[cfg(test)]
 mod places;
 #[cfg(test)]

@@ -184,8 +184,8 @@ impl<'a> Place<'a> {
         text.extend_from_slice(b"\n")
     }
 
-    // The first token of the statement whose block begins at this token.
-    fn head_of(&self, open: usize) -> Option<&'a Token> {
+    /// The first token of the statement whose block begins at this token.
+    pub fn head_of(&self, open: usize) -> Option<&'a Token> {
         let before = self.tokens.get(..open)?;
         let length = before
             .iter()

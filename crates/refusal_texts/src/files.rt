@@ -1,13 +1,18 @@
 // Why a file is refused.
 ghost use Rattle.std.specs.Prelude.{◌<◌, ◌^◌, length};
 
+use crate::field_hints::is_whole;
+use crate::file_hints::{Refused, push_row_hint};
 use crate::pieces::{push_between, push_number, push_words};
 use batch_files::FileKind;
 use csv::ByteRecord;
 use gp_base::{Name, Text};
-use row_places::{RowPlace, bad_field, fault_field, first_like, line_from, place_of, row_of};
+use row_places::{
+    RowPlace, bad_field, fault_field, field_start, first_like, line_from, place_of, row_of,
+};
 use std::alloc::{AllocError, Global};
-use text_places::push_shown;
+use task_ast::{Head, natural};
+use text_places::{push_marked, push_shown};
 
 /// What a file is read as: the cells of a record with so many, the rows of a feed with so many fields, or faults.
 #[derive(Clone, Copy)]
@@ -20,8 +25,8 @@ pub enum FileUse<'a> {
 // How many bytes of a field are told.
 const LONGEST_FIELD: usize = 40;
 
-// How many fields a row has to have.
-fn fields_of(used: FileUse<'_>) -> u64 {
+/// How many fields a row has to have.
+pub fn fields_of(used: FileUse<'_>) -> u64 {
     match used {
         FileUse::Record { .. } => 2,
         FileUse::Feed { fields } => fields,
@@ -29,8 +34,8 @@ fn fields_of(used: FileUse<'_>) -> u64 {
     }
 }
 
-// The bytes of a field.
-fn bytes_in(row: &ByteRecord, field: usize) -> &[u8] {
+/// The bytes of a field.
+pub fn bytes_in(row: &ByteRecord, field: usize) -> &[u8] {
     match row.get(field) {
         Some(bytes) => bytes,
         None => &[],
@@ -57,15 +62,6 @@ fn push_count(text: &mut Vec<u8>, row: &ByteRecord, used: FileUse<'_>) -> Result
     };
     push_between(text, b"", row.len() as u64, word)?;
     push_number(text, fields_of(used))
-}
-
-// Whether a field is a whole number, also where it is one that leaves 64 bits: digits, after a minus or not.
-fn is_whole(field: &[u8]) -> bool {
-    let digits = match field {
-        [b'-', digits @ ..] => digits,
-        _ => field,
-    };
-    !digits.is_empty() && digits.iter().all(|byte| byte.is_ascii_digit())
 }
 
 // Appends that a field writes no number of 64 bits.
@@ -186,113 +182,46 @@ fn kind_number(kind: FileKind) -> u64 {
     }
 }
 
-// How often a byte stands in a line.
-fn count(line: &[u8], wanted: u8) -> u64 {
-    line.iter().filter(|byte| **byte == wanted).count() as u64
+// The field of a row that a refusal is about, from 0, if it is about one: of a row with too many fields the first of these.
+fn field_in(row: &ByteRecord, used: FileUse<'_>, kind: FileKind) -> Option<usize> {
+    match (kind, used) {
+        (FileKind::Fields, _) => usize::try_from(fields_of(used)).ok(),
+        (FileKind::Number, _) => bad_field(row),
+        (FileKind::Range, FileUse::Faults) => fault_field(row),
+        (FileKind::Range | FileKind::Twice, _) => Some(0),
+        (FileKind::TooMany, _) => None,
+    }
 }
 
-// Appends that the fields of a line stand between other marks than commas.
-fn push_separator(text: &mut Vec<u8>, marks: u64, word: &[u8]) -> Result<(), AllocError> {
-    push_between(text, b"hint: the line has ", marks, word)?;
-    let plural: &[u8] = if marks == 1 { b"" } else { b"s" };
-    push_words(text, plural, b": fields stand between commas", b"\n")
-}
-
-// Whether a field has a letter.
-fn has_letter(field: &[u8]) -> bool {
-    field.iter().any(|byte| byte.is_ascii_alphabetic())
-}
-
-// Whether a field has a digit and a point, and no letter.
-fn has_point(field: &[u8]) -> bool {
-    count(field, b'.') > 0 && field.iter().any(|byte| byte.is_ascii_digit()) && !has_letter(field)
-}
-
-// Whether a row names its fields: none of them is a number, and some field has a letter.
-fn names_fields(row: &ByteRecord) -> bool {
-    let mut letters = false;
-    for field in 0..row.len() {
-        if is_whole(bytes_in(row, field)) {
-            return false;
+// Appends the line of a row, with a mark under the field that is refused where the line has it.
+fn push_line(text: &mut Vec<u8>, line: &[u8], field: Option<usize>) -> Result<(), AllocError> {
+    if line.is_empty() {
+        return Ok(());
+    }
+    let at = match field {
+        Some(field) => field_start(line, field),
+        None => None,
+    };
+    match at {
+        Some(at) => push_marked(text, line, at),
+        None => {
+            push_shown(text, line)?;
+            text.extend_from_slice(b"\n")
         }
-        letters = letters || has_letter(bytes_in(row, field));
-    }
-    letters
-}
-
-// Appends a hint on a row with another number of fields.
-fn push_fields_hint(
-    text: &mut Vec<u8>,
-    line: &[u8],
-    row: &ByteRecord,
-    used: FileUse<'_>,
-) -> Result<(), AllocError> {
-    if count(line, b';') > 0 {
-        push_separator(text, count(line, b';'), b" semicolon")
-    } else if count(line, b'\t') > 0 {
-        push_separator(text, count(line, b'\t'), b" tab")
-    } else if row.len() == 1 && matches!(used, FileUse::Record { .. }) {
-        text.extend_from_slice(b"hint: a row of a record's file is index,value\n")
-    } else {
-        Ok(())
     }
 }
 
-// Appends a hint on a field that is no number, in the row of this number.
-fn push_number_hint(
-    text: &mut Vec<u8>,
-    row: &ByteRecord,
-    field: usize,
-    number: u32,
-) -> Result<(), AllocError> {
-    if has_point(bytes_in(row, field)) {
-        text.extend_from_slice(b"hint: amounts in cents\n")
-    } else if number == 1 && names_fields(row) {
-        text.extend_from_slice(b"hint: a header has to go\n")
-    } else {
-        Ok(())
-    }
-}
-
-// Appends a hint on a row that is not as it has to be.
-fn push_hint(
-    text: &mut Vec<u8>,
-    line: &[u8],
-    row: &ByteRecord,
-    used: FileUse<'_>,
-    kind: FileKind,
-    number: u32,
-) -> Result<(), AllocError> {
-    match (kind, bad_field(row)) {
-        (FileKind::Fields, _) => push_fields_hint(text, line, row, used),
-        (FileKind::Number, Some(field)) => push_number_hint(text, row, field, number),
-        _ => Ok(()),
-    }
-}
-
-// Appends the line of a row, and a hint on it.
-fn push_line(
-    text: &mut Vec<u8>,
-    bytes: &[u8],
-    place: Option<RowPlace>,
-    row: &ByteRecord,
-    used: FileUse<'_>,
-    kind: FileKind,
-    number: u32,
-) -> Result<(), AllocError> {
-    let line = match place {
+// The line of a row.
+fn line_at(bytes: &[u8], place: Option<RowPlace>) -> &[u8] {
+    match place {
         Some(place) if place.at <= bytes.len() => line_from(bytes, place.at),
         _ => &[],
-    };
-    if !line.is_empty() {
-        push_shown(text, line)?;
-        text.extend_from_slice(b"\n")?;
     }
-    push_hint(text, line, row, used, kind, number)
 }
 
 /// Appends why a file is refused at a row: the name of the file, the line of the row, what is said of the row, the rule
-/// and the row, the line itself, and hints. Where the line can't be found it is left out. The only error is out of memory.
+/// and the row, the line itself with a mark under the field, and hints. Where the line can't be found it is left out.
+/// The only error is out of memory.
 pub fn push_file_refusal(
     alloc: Global,
     text: &mut Vec<u8>,
@@ -318,7 +247,17 @@ pub fn push_file_refusal(
     push_row_message(alloc, text, bytes, &record, used, kind)?;
     push_between(text, b" (kind ", kind_number(kind), b" row ")?;
     push_between(text, b"", u64::from(row), b")\n")?;
-    push_line(text, bytes, place, &record, used, kind, row)
+    let line = line_at(bytes, place);
+    push_line(text, line, field_in(&record, used, kind))?;
+    let refused = Refused {
+        bytes,
+        line,
+        row: &record,
+        number: row,
+        used,
+        kind,
+    };
+    push_row_hint(text, refused)
 }
 
 /// Appends that a file is too long.
@@ -329,4 +268,39 @@ pub fn push_long_file(text: &mut Vec<u8>, name: &Name) -> Result<(), AllocError>
         b": more than 33554432 bytes (kind 6 row 0)\n",
         b"",
     )
+}
+
+/// Appends which line of a program says how many fields a row of a feed has, where its file is refused since a row has another
+/// number of them. The heads are those of the program, and the name is that of the file. The only error is out of memory.
+pub fn push_feed_head(
+    text: &mut Vec<u8>,
+    heads: &[Head],
+    file: &Name,
+    used: FileUse<'_>,
+    kind: FileKind,
+) -> Result<(), AllocError> {
+    let (FileUse::Feed { fields: wanted }, FileKind::Fields) = (used, kind) else {
+        return Ok(());
+    };
+    for head in heads {
+        if let Head::FeedHead {
+            name,
+            fields,
+            from,
+            line,
+        } = head
+        {
+            if from.as_slice() == file.as_slice() && natural(*fields) == wanted {
+                push_between(
+                    text,
+                    b"hint: line ",
+                    u64::from(*line),
+                    b" of the program says: ",
+                )?;
+                push_words(text, b"feed ", name.as_slice(), b" has ")?;
+                return push_between(text, b"", wanted, b" fields in each row\n");
+            }
+        }
+    }
+    Ok(())
 }

@@ -5,7 +5,8 @@ type Row = (&'static [u8], &'static [u8]);
 
 const LOOP: &[u8] = b"write `i = 0; while i < n { .. i = i + 1; }`";
 
-const ELSE_IF: &[u8] = b"write `else { if e { .. } }`";
+/// What is written in place of an `if` right after an `else`.
+pub const ELSE_IF: &[u8] = b"write `else { if e { .. } }`";
 
 const DECLARED: &[u8] = b"write `var x;` before the first statement of the task, and then `x = 3;`";
 
@@ -23,6 +24,11 @@ const CHOICE: &[u8] = b"write `if e { .. } else { .. }`";
 
 const LEFT: &[u8] = b"the condition of the `while` tests a variable that is set";
 
+const THROWN: &[u8] = b"there are no exceptions: an `if` tests before, and a `print` tells";
+
+const CELLS: &[u8] =
+    b"cells that are written are a record under its locks: `lock l[4]; record r[4] by l;`";
+
 const RESULT: &[u8] = b"write `$ret = 3;` as the last statement; the others go into an `if`";
 
 /// What is told where a block does not begin as it has to.
@@ -31,7 +37,7 @@ pub const BLOCK: &[u8] = b"a block stands between `{` and `}`";
 const CLOSED: &[u8] = b"a block ends with `}`";
 
 // Words that begin what is a statement in other languages.
-const BEGINNINGS: [Row; 54] = [
+const BEGINNINGS: [Row; 79] = [
     (b"for", LOOP),
     (b"foreach", LOOP),
     (b"loop", LOOP),
@@ -51,6 +57,15 @@ const BEGINNINGS: [Row; 54] = [
     (b"const", DECLARED),
     (b"auto", DECLARED),
     (b"set", DECLARED),
+    (b"val", DECLARED),
+    (b"uint", DECLARED),
+    (b"integer", DECLARED),
+    (b"boolean", DECLARED),
+    (b"char", DECLARED),
+    (b"static", DECLARED),
+    (b"final", DECLARED),
+    (b"local", DECLARED),
+    (b"global", DECLARED),
     (b"spawn", STARTED),
     (b"start", STARTED),
     (b"thread", STARTED),
@@ -64,11 +79,30 @@ const BEGINNINGS: [Row; 54] = [
     (b"release", LOCKED),
     (b"mutex", LOCKED),
     (b"synchronized", LOCKED),
+    (b"with", LOCKED),
+    (b"using", LOCKED),
+    (b"atomic", LOCKED),
+    (b"critical", LOCKED),
     (b"func", TASK),
     (b"def", TASK),
     (b"fn", TASK),
     (b"function", TASK),
     (b"proc", TASK),
+    (b"procedure", TASK),
+    (b"sub", TASK),
+    (b"call", STARTED),
+    (b"run", STARTED),
+    (b"unless", b"write `if not (e) { .. }`"),
+    (b"try", THROWN),
+    (b"catch", THROWN),
+    (b"throw", THROWN),
+    (b"raise", THROWN),
+    (b"pass", b"a block may be empty: `{ }`"),
+    (
+        b"delete",
+        b"nothing is deleted: write 0, or a number that stands for none",
+    ),
+    (b"new", CELLS),
     (b"void", TASK),
     (b"printf", PRINTED),
     (b"println", PRINTED),
@@ -107,11 +141,10 @@ const OPERATORS: [Row; 13] = [
 
 const CONSTANT: &[u8] = b"there are no constants: write the number where it is used";
 
-const CELLS: &[u8] =
-    b"cells that are written are a record under its locks: `lock l[4]; record r[4] by l;`";
+const ALONE: &[u8] = b"a program is one text: there is nothing to bring in";
 
 // Words that begin what stands outside of functions in other languages.
-const HEADS: [Row; 7] = [
+const HEADS: [Row; 17] = [
     (b"const", CONSTANT),
     (b"let", CONSTANT),
     (b"define", CONSTANT),
@@ -119,6 +152,19 @@ const HEADS: [Row; 7] = [
     (b"long", CELLS),
     (b"mutex", b"write `lock l[4];`"),
     (b"semaphore", b"write `lock l[4];`"),
+    (b"array", CELLS),
+    (b"table", CELLS),
+    (b"shared", CELLS),
+    (b"global", CELLS),
+    (b"import", ALONE),
+    (b"include", ALONE),
+    (b"use", ALONE),
+    (b"module", ALONE),
+    (b"package", ALONE),
+    (
+        b"struct",
+        b"several numbers of one thing are several records under one lock array",
+    ),
 ];
 
 const LEAST: &[u8] = b"`a + (b - a) * (b < a)` is the lesser of two";
@@ -163,13 +209,13 @@ fn told_in(table: &[Row], word: &[u8]) -> Option<&'static [u8]> {
 
 /// What is written in place of a statement that begins with this word.
 pub fn beginning(word: &[u8]) -> Option<&'static [u8]> {
-    let table: [Row; 54] = BEGINNINGS;
+    let table: [Row; 79] = BEGINNINGS;
     told_in(&table, word)
 }
 
 /// What is written in place of a head that begins with this word.
 pub fn head(word: &[u8]) -> Option<&'static [u8]> {
-    let table: [Row; 7] = HEADS;
+    let table: [Row; 17] = HEADS;
     told_in(&table, word)
 }
 
@@ -185,23 +231,19 @@ pub fn function(word: &[u8]) -> Option<&'static [u8]> {
     told_in(&table, word)
 }
 
+const NO_VALUE: &[u8] =
+    b"every value is a number: `0`, or one that is nowhere else used, stands for none";
+
 /// What is written in place of a name that stands for a value in other languages.
 pub fn value(word: &[u8]) -> Option<&'static [u8]> {
-    let table: [Row; 5] = [
+    let table: [Row; 7] = [
         (b"true", b"`1` and `0` stand for true and false"),
         (b"false", b"`1` and `0` stand for true and false"),
-        (
-            b"null",
-            b"every value is a number: `0`, or one that is nowhere else used, stands for none",
-        ),
-        (
-            b"nil",
-            b"every value is a number: `0`, or one that is nowhere else used, stands for none",
-        ),
-        (
-            b"none",
-            b"every value is a number: `0`, or one that is nowhere else used, stands for none",
-        ),
+        (b"null", NO_VALUE),
+        (b"nil", NO_VALUE),
+        (b"none", NO_VALUE),
+        (b"undefined", NO_VALUE),
+        (b"nullptr", NO_VALUE),
     ];
     told_in(&table, word)
 }

@@ -206,8 +206,22 @@ fn is_named(head: &Head, name: &Name) -> bool {
     false
 }
 
+// What is told of a task that stands where this is needed.
+fn told_of_task(role: Role) -> &'static [u8] {
+    if role == Role::Control {
+        b" is a task: the variable after the `into` of a fork is the number of its thread\n"
+    } else {
+        b" is a task\n"
+    }
+}
+
 // Appends what else the name is declared as among the heads and the tasks.
-fn push_other_role(text: &mut Vec<u8>, program: &Program, name: &Name) -> Result<bool, AllocError> {
+fn push_other_role(
+    text: &mut Vec<u8>,
+    program: &Program,
+    role: Role,
+    name: &Name,
+) -> Result<bool, AllocError> {
     for head in program.heads.as_slice() {
         if is_named(head, name) {
             push_words(text, b"hint: ", name.as_slice(), kind_of(head))?;
@@ -216,7 +230,7 @@ fn push_other_role(text: &mut Vec<u8>, program: &Program, name: &Name) -> Result
     }
     for task in program.tasks.as_slice() {
         if task.name.as_slice() == name.as_slice() {
-            push_words(text, b"hint: ", name.as_slice(), b" is a task\n")?;
+            push_words(text, b"hint: ", name.as_slice(), told_of_task(role))?;
             return Ok(true);
         }
     }
@@ -241,7 +255,7 @@ fn push_unknown(
     if let Some(hint) = value(name.as_slice()) {
         return push_words(text, b"hint: ", hint, b"\n");
     }
-    if role != Role::Data && push_other_role(text, program, name)? {
+    if role != Role::Data && push_other_role(text, program, role, name)? {
         return Ok(());
     }
     if push_near(text, program, role, name, task)? {
@@ -255,7 +269,7 @@ fn push_unknown(
 
 // Appends what to write in place of the lock array of a record.
 fn push_no_array(text: &mut Vec<u8>, program: &Program, array: &Name) -> Result<(), AllocError> {
-    if !push_other_role(text, program, array)? {
+    if !push_other_role(text, program, Role::LockArray, array)? {
         push_near_head(text, program.heads.as_slice(), Role::LockArray, array)?;
     }
     Ok(())

@@ -2,10 +2,13 @@
 
 use crate::foreign::{BLOCK, beginning};
 use crate::hints::{COMMENT, hint_line};
+use crate::odd_bytes::{Place, UTF_16, is_utf_16, push_odd};
 use std::alloc::{AllocError, Global};
 use text_places::{is_quoted_at, line_before};
 
 const CENTS: &[u8] = b"numbers are whole: write amounts in cents";
+
+const GROUPED: &[u8] = b"a number has digits alone, as `1000`; amounts are written in cents";
 
 const ROWS: &[u8] = b"no name has fields: `rows(f)` is the number of rows of feed f";
 
@@ -30,6 +33,15 @@ fn is_digit(byte: Option<&u8>) -> bool {
 
 fn is_letter(byte: Option<&u8>) -> bool {
     matches!(byte, Some(byte) if byte.is_ascii_alphabetic() || *byte == b'_')
+}
+
+// Whether a digit stands before a place, and three and no more after the byte there, as around a mark between thousands.
+fn is_between_thousands(program: &[u8], at: usize) -> bool {
+    let digits = match program.get(at.saturating_add(1)..) {
+        Some(rest) => rest.iter().take_while(|byte| byte.is_ascii_digit()).count(),
+        None => 0,
+    };
+    digits == 3 && is_digit(program.get(at.saturating_sub(1)))
 }
 
 // Whether a word stands at the front.
@@ -64,6 +76,8 @@ fn point_hint(program: &[u8], at: usize) -> &'static [u8] {
         b"the name of a file stands in double quotes"
     } else if before == Some(&b'.') || after == Some(&b'.') {
         b"there are no ranges: write `i = 0; while i < n { .. i = i + 1; }`"
+    } else if is_between_thousands(program, at) {
+        GROUPED
     } else if is_digit(before) || is_digit(after) {
         CENTS
     } else if begins_with(rest, &counts) {
@@ -154,7 +168,8 @@ fn byte_hint(program: &[u8], at: usize) -> Option<&'static [u8]> {
         b'&' => Some(b"`d and e` is what other languages write `d && e`"),
         b'|' => Some(b"`d or e` is what other languages write `d || e`"),
         b'$' => Some(b"the name of a data variable follows its `$` directly"),
-        b'\'' => Some(
+        b'\'' if is_between_thousands(program, at) => Some(GROUPED),
+        b'\'' | b'`' => Some(
             b"there are numbers alone, and texts in double quotes for the names of files",
         ),
         b':' => colon_hint(program, at),
@@ -165,14 +180,28 @@ fn byte_hint(program: &[u8], at: usize) -> Option<&'static [u8]> {
     }
 }
 
-/// The hints on a byte that can't stand where it is shown.
-pub fn lex_hints(alloc: Global, program: &[u8], at: usize) -> Result<Vec<u8>, AllocError> {
-    let hint: Option<&[u8]> = if is_after_slashes(program, at) {
-        Some(COMMENT)
-    } else if is_quoted_at(program, at) {
+// What is told of a byte outside of a text in quotes, or in one.
+fn plain_hint(program: &[u8], at: usize) -> Option<&'static [u8]> {
+    if is_quoted_at(program, at) {
         Some(b"a text in quotes is the name of a file, and ends in its line")
     } else {
         byte_hint(program, at)
-    };
-    hint_line(alloc, hint)
+    }
+}
+
+/// The hints on a byte that can't stand where it is shown.
+pub fn lex_hints(alloc: Global, program: &[u8], at: usize) -> Result<Vec<u8>, AllocError> {
+    if is_utf_16(program) {
+        return hint_line(alloc, Some(UTF_16));
+    }
+    if is_after_slashes(program, at) {
+        return hint_line(alloc, Some(COMMENT));
+    }
+    let mut text = Vec::new(alloc);
+    if let Some(rest) = program.get(at..) {
+        if push_odd(&mut text, rest, Place::Program)? {
+            return Ok(text);
+        }
+    }
+    hint_line(alloc, plain_hint(program, at))
 }

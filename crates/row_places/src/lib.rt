@@ -10,3 +10,4 @@ mod scan;
 pub use fields::{bad_field, fault_field, number_in};
 pub use place::{RowPlace, line_from, place_of};
 pub use rows::{first_like, row_of};
+pub use scan::field_start;

@@ -1,5 +1,5 @@
 // Where rows begin, by a scan of a file's bytes. What it finds is looked up by who calls it.
-ghost use Rattle.std.specs.Prelude.{◌≡◌, ◌≤◌, length};
+ghost use Rattle.std.specs.Prelude.{◌≡◌, ◌≤◌, length, IfSome};
 ghost use Rattle.row_places.specs.Places.{is_line_end};
 
 // Where a byte of a file stands.
@@ -54,6 +54,27 @@ pub fn row_start(bytes: &[u8], row: u32) -> Option<usize> {
             }
         }
         stand = after(stand, bytes[at]);
+    }
+    None
+}
+
+/// Where a field of a row begins, by its number from 0, if it begins in the line in which the row does.
+pub fn field_start(line: &[u8], field: usize) -> Option<usize>
+    ensures { IfSome result (λ at. at ≤ length line.now) }
+{
+    if field == 0 {
+        return Some(0);
+    }
+    let mut stand = Stand::RowStart;
+    let mut passed: usize = 0;
+    for at in 0..line.len() {
+        stand = after(stand, line[at]);
+        if stand == Stand::FieldStart {
+            passed = passed.saturating_add(1);
+            if passed == field {
+                return Some(at + 1);
+            }
+        }
     }
     None
 }

@@ -248,15 +248,19 @@ task main() { }
 const RANGE_TOLD: &str =
     "moves.csv:1: field 1: 2 is no index of acct, which has 2 cells, 0 to 1 (kind 3 row 1)
 2,7
+^
+hint: indices are counted from 0
 ";
 
 const CENTS_TOLD: &str = "moves.csv:3: field 2: \"4.5\" is no whole number (kind 2 row 2)
 3,4.5
+  ^
 hint: amounts in cents
 ";
 
 const HEADER_TOLD: &str = "moves.csv:1: field 1: \"a\" is no whole number (kind 2 row 1)
 a,b
+^
 hint: a header has to go
 ";
 
@@ -267,6 +271,7 @@ hint: the line has 1 semicolon: fields stand between commas
 
 const DELAY_TOLD: &str = "moves.csv:1: field 3: 65 is no delay, 0 to 64 (kind 3 row 1)
 1,0,65,1
+    ^
 ";
 
 // One file at two places: the first takes its row, and the second refuses it.
@@ -280,6 +285,8 @@ task main() { }
 const SECOND_RECORD_TOLD: &str =
     "moves.csv:1: field 1: 2 is no index of y, which has 2 cells, 0 to 1 (kind 3 row 1)
 2,7
+^
+hint: indices are counted from 0
 ";
 
 const RECORD_AND_FEED: &str = "lock l[2];
