@@ -1,19 +1,19 @@
 // What is told of a run that is stuck, after its front.
 
-use crate::circles::push_circle;
-use crate::counts::push_many;
-use crate::ended::push_ended;
+use crate::halted::Halted;
 use crate::indices::push_index;
-use crate::threads::push_names;
-use call_cases::Request;
 use gp_base::{LockNo, ThreadNo, Why};
 use one_thread::{Standing, Step};
+use run_hints::{
+    Place, push_alike, push_chain, push_circle, push_ended, push_forks, push_loops, push_many,
+    push_names,
+};
 use run_views::{push_between, push_labelled, push_lock};
 use std::alloc::{AllocError, Global};
 use task_ast::{Head, Next, SyncOp};
 
 // How many threads have their control variables told, and of how many locks it is told who holds them.
-const MOST_TOLD: usize = 100;
+const MOST_TOLD: usize = 20;
 
 // The lines in which locks were last taken, by their numbers, of which there are so many.
 fn taking_lines(alloc: Global, order: &[Step], count: usize) -> Result<Vec<u32>, AllocError> {
@@ -28,7 +28,60 @@ fn taking_lines(alloc: Global, order: &[Step], count: usize) -> Result<Vec<u32>,
     Ok(lines)
 }
 
-// Appends who holds which locks, and where they were taken, of the first locks that are held.
+// Which locks somebody waits for, by their numbers, of which there are so many.
+fn wanted_locks(
+    alloc: Global,
+    standing: &Standing,
+    count: usize,
+) -> Result<Vec<bool>, AllocError> {
+    let mut wanted = Vec::from_elem(alloc, false, count)?;
+    for next in standing.nexts.as_slice() {
+        if let Some(next) = next {
+            if let SyncOp::Lock(lock) = &next.sync {
+                if let Some(place) = wanted.get_mut(lock.0 as usize) {
+                    *place = true;
+                }
+            }
+        }
+    }
+    Ok(wanted)
+}
+
+// A lock that is held.
+#[derive(Clone, Copy)]
+struct Holding {
+    lock: LockNo,
+    owner: usize,
+    line: u32,
+    is_wanted: bool,
+}
+
+// The locks that are held.
+fn holdings_of(
+    alloc: Global,
+    order: &[Step],
+    standing: &Standing,
+) -> Result<Vec<Holding>, AllocError> {
+    let owners = standing.owners.as_slice();
+    let lines = taking_lines(alloc, order, owners.len())?;
+    let wanted = wanted_locks(alloc, standing, owners.len())?;
+    let mut holdings = Vec::new(alloc);
+    let mut lock: u32 = 0;
+    for (owner, (line, is_wanted)) in owners.iter().zip(lines.iter().zip(&wanted)) {
+        if let Some(owner) = owner {
+            holdings.push(Holding {
+                lock: LockNo(lock),
+                owner: *owner,
+                line: *line,
+                is_wanted: *is_wanted,
+            })?;
+        }
+        lock = lock.saturating_add(1);
+    }
+    Ok(holdings)
+}
+
+// Appends who holds which locks, and where they were taken; where many are held, the first of those that somebody waits for.
 fn push_holders(
     alloc: Global,
     text: &mut Vec<u8>,
@@ -36,23 +89,24 @@ fn push_holders(
     order: &[Step],
     standing: &Standing,
 ) -> Result<(), AllocError> {
-    let owners = standing.owners.as_slice();
-    let lines = taking_lines(alloc, order, owners.len())?;
+    let holdings = holdings_of(alloc, order, standing)?;
+    let are_few = holdings.len() <= MOST_TOLD;
     let mut told: usize = 0;
-    let mut lock: u32 = 0;
-    for (owner, line) in owners.iter().zip(&lines) {
-        if let Some(thread) = owner {
-            if told < MOST_TOLD {
-                push_labelled(text, b"thread ", *thread)?;
-                text.extend_from_slice(b" holds ")?;
-                push_lock(text, heads, LockNo(lock))?;
-                push_between(text, b", taken in line ", *line, b"\n")?;
-            }
+    for holding in &holdings {
+        if (are_few || holding.is_wanted) && told < MOST_TOLD {
+            push_labelled(text, b"thread ", holding.owner)?;
+            text.extend_from_slice(b" holds ")?;
+            push_lock(text, heads, holding.lock)?;
+            push_between(text, b", taken in line ", holding.line, b"\n")?;
             told = told.saturating_add(1);
         }
-        lock = lock.saturating_add(1);
     }
-    Ok(())
+    let left = holdings.len().saturating_sub(told) as u64;
+    if left == 0 {
+        return Ok(());
+    }
+    push_many(text, left, b" more lock")?;
+    text.extend_from_slice(if left == 1 { b" is held\n" } else { b" are held\n" })
 }
 
 // Appends the control variables of a thread, where it has any.
@@ -119,33 +173,51 @@ fn push_join(text: &mut Vec<u8>, thread: ThreadNo, standing: &Standing) -> Resul
     push_between(text, b"", threads.saturating_sub(1), b"\n")
 }
 
+// Appends where a thread forks one thread too many, in which loops, and which threads led to it.
+fn push_too_many(
+    alloc: Global,
+    text: &mut Vec<u8>,
+    halted: Halted<'_>,
+    thread: ThreadNo,
+    line: u32,
+) -> Result<(), AllocError> {
+    let threads = halted.standing.nexts.len();
+    push_between(text, b"", threads, b" threads are there, the most there may be\n")?;
+    push_forks(alloc, text, halted.order)?;
+    push_chain(alloc, text, halted.order, thread)?;
+    let loops = halted.loops_of(alloc, thread, Place::Subthread(line))?;
+    if !loops.is_empty() {
+        push_labelled(text, b"thread ", thread.0)?;
+        push_labelled(text, b" forks in line ", line)?;
+        push_loops(text, &loops)?;
+        text.extend_from_slice(b"\n")?;
+    }
+    let turned = halted.turned(alloc, thread, &loops)?;
+    halted.push_values_of(alloc, text, thread, &turned)
+}
+
 /// Appends what is told of a run of a program with this text that is stuck at a thread and line, after its front. The error
 /// is that memory is out.
 pub fn push_stuck_details(
     alloc: Global,
     text: &mut Vec<u8>,
-    request: &Request,
+    halted: Halted<'_>,
     source: &[u8],
-    order: &[Step],
     stuck: (Why, ThreadNo, u32),
-    standing: &Standing,
 ) -> Result<(), AllocError> {
     let (why, thread, line) = stuck;
+    let standing = halted.standing;
     match why {
         Why::Deadlock => {
-            let heads = request.checked.program().heads.as_slice();
-            push_ended(alloc, text, order, standing)?;
-            push_holders(alloc, text, heads, order, standing)?;
+            let heads = halted.program().heads.as_slice();
+            push_alike(alloc, text, heads, standing)?;
+            push_ended(alloc, text, halted.order, standing)?;
+            push_holders(alloc, text, heads, halted.order, standing)?;
             push_circle(alloc, text, heads, standing)?;
             push_waiting(text, standing)
         }
-        Why::Index => push_index(alloc, text, request, source, thread, line, standing),
+        Why::Index => push_index(alloc, text, halted.request, source, thread, line, standing),
         Why::Join => push_join(text, thread, standing),
-        Why::Threads => push_between(
-            text,
-            b"",
-            standing.nexts.len(),
-            b" threads are there, the most there may be\n",
-        ),
+        Why::Threads => push_too_many(alloc, text, halted, thread, line),
     }
 }

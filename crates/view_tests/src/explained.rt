@@ -18,6 +18,8 @@ thread 0 holds l[0], taken in line 4
 thread 0: i = 0, j = 0
 2 subthreads, 1 thread, 1 lock taken; at most 1 subthread side by side
 arithmetic: exact in every line that ran
+hint: line 4 reads i, which nothing sets: it is 0
+hint: line 5 reads j, which nothing sets: it is 0
 ";
 
 // The lock that thread 1 holds was taken before, in another line.
@@ -327,6 +329,7 @@ const PAST_TOLD: &str = "stuck index thread 0 line 5
 moves[2, 1]; moves has 2 rows, 0 to 1, of 2 fields, 0 to 1
     print moves[i, 1];
           ^
+hint: the loop in line 4 goes on while i < 5, and i came to 2
 thread 0: i = 2
 1 subthread, 1 thread, 0 locks taken; at most 1 subthread side by side
 arithmetic: exact in every line that ran
@@ -552,6 +555,8 @@ loop in line 5, 1 turn since it was entered: i = 0
 hint: --subthreads allows up to 200000, for a batch that ends
 2 subthreads, 1 thread, 1 lock taken; at most 1 subthread side by side
 arithmetic: exact in every line that ran
+hint: line 5 reads i, which nothing sets: it is 0
+hint: line 7 reads n, which nothing sets: it is 0
 ";
 
 const BEGINS: &str = "task t(n) { print n; }

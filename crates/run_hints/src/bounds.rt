@@ -1,0 +1,203 @@
+// The condition that lets an index come to be outside of its array.
+
+use crate::loops::{Place, loops_at};
+use crate::statements::{is_among, put_controls, statements_of, value_of};
+use gp_base::Name;
+use run_counts::Loop;
+use run_views::push_labelled;
+use std::alloc::{AllocError, Global};
+use task_ast::{Env, Expr, Op, Stmt, TaskText, What, apply, eval_d};
+
+// How often the variables are followed from which an index is computed.
+const MOST_FOLLOWED: usize = 2;
+
+// A variable that is compared with a bound.
+#[derive(Clone, Copy)]
+struct Bound<'a> {
+    name: &'a Name,
+    op: Op,
+    bound: &'a Expr,
+}
+
+// The operator with its sides turned round, of comparisons.
+fn turned(op: Op) -> Option<Op> {
+    match op {
+        Op::Lt => Some(Op::Gt),
+        Op::Le => Some(Op::Ge),
+        Op::Gt => Some(Op::Lt),
+        Op::Ge => Some(Op::Le),
+        Op::Ne => Some(Op::Ne),
+        _ => None,
+    }
+}
+
+// How an operator of comparison is written.
+fn sign(op: Op) -> &'static [u8] {
+    match op {
+        Op::Lt => b" < ",
+        Op::Le => b" <= ",
+        Op::Gt => b" > ",
+        Op::Ge => b" >= ",
+        _ => b" != ",
+    }
+}
+
+// The bound of a variable by the two sides of a comparison.
+fn bound_by<'a>(names: &[&Name], left: &'a Expr, op: Op, right: &'a Expr) -> Option<Bound<'a>> {
+    let turned = turned(op)?;
+    match (left, right) {
+        (Expr::Ctl(name), bound) if is_among(names, name) => Some(Bound { name, op, bound }),
+        (bound, Expr::Ctl(name)) if is_among(names, name) => Some(Bound {
+            name,
+            op: turned,
+            bound,
+        }),
+        _ => None,
+    }
+}
+
+// The first bound of one of these variables among the comparisons that a condition joins by `and`.
+fn bound_in<'a>(names: &[&Name], condition: &'a Expr) -> Option<Bound<'a>> {
+    let Expr::Chain(first, links) = condition else {
+        return None;
+    };
+    if let [link] = links.as_slice() {
+        let found = bound_by(names, first, link.0, &link.1);
+        if found.is_some() {
+            return found;
+        }
+    }
+    let found = bound_in(names, first);
+    if found.is_some() {
+        return found;
+    }
+    for link in links.as_slice() {
+        if link.0 != Op::And {
+            return None;
+        }
+        let found = bound_in(names, &link.1);
+        if found.is_some() {
+            return found;
+        }
+    }
+    None
+}
+
+// Adds the variables from which those of these names are computed.
+fn follow<'a>(names: &mut Vec<&'a Name>, statements: &[&'a Stmt]) -> Result<(), AllocError> {
+    for stmt in statements {
+        if let What::SetCtl(name, e) = &stmt.what {
+            if is_among(names, name) {
+                put_controls(names, e)?;
+            }
+        }
+    }
+    Ok(())
+}
+
+// Where a bound stands, and how the condition is asked.
+#[derive(Clone, Copy)]
+struct Asked<'a> {
+    line: u32,
+    // Whether the cell is named in the condition itself.
+    is_own: bool,
+    bound: Bound<'a>,
+}
+
+// The condition that stands in a line itself.
+fn own_condition<'a>(statements: &[&'a Stmt], line: u32) -> Option<&'a Expr> {
+    for stmt in statements {
+        if stmt.line == line {
+            return match &stmt.what {
+                What::While(e, _) => Some(e),
+                What::If(e, _, _) => Some(e),
+                _ => None,
+            };
+        }
+    }
+    None
+}
+
+// The bound of one of these variables by the condition in this line, or by that of the innermost loop around it that has one.
+fn asked_at<'a>(
+    names: &[&Name],
+    statements: &[&'a Stmt],
+    loops: &[Loop<'a>],
+    line: u32,
+) -> Option<Asked<'a>> {
+    if let Some(condition) = own_condition(statements, line) {
+        if let Some(bound) = bound_in(names, condition) {
+            return Some(Asked {
+                line,
+                is_own: true,
+                bound,
+            });
+        }
+    }
+    for around in loops.iter().rev() {
+        if let Some(bound) = bound_in(names, around.condition) {
+            return Some(Asked {
+                line: around.line,
+                is_own: false,
+                bound,
+            });
+        }
+    }
+    None
+}
+
+// Appends a comparison with the value of its bound.
+fn push_comparison(text: &mut Vec<u8>, bound: Bound<'_>, limit: i64) -> Result<(), AllocError> {
+    text.extend_from_slice(bound.name.as_slice())?;
+    push_labelled(text, sign(bound.op), limit)
+}
+
+// Appends how a condition lets an index come to be outside, if it does.
+fn push_asked(text: &mut Vec<u8>, env: &Env, asked: Asked<'_>) -> Result<(), AllocError> {
+    let bound = asked.bound;
+    let Some(limit) = eval_d(bound.bound, env) else {
+        return Ok(());
+    };
+    let value = value_of(env.names.as_slice(), bound.name);
+    let holds = apply(bound.op, value, limit) != 0;
+    if asked.is_own && holds {
+        return Ok(());
+    }
+    if asked.is_own {
+        text.extend_from_slice(b"hint: all parts of a condition are read, also where ")?;
+        push_comparison(text, bound, limit)?;
+        return text.extend_from_slice(b" does not hold: read the cell behind that test\n");
+    }
+    push_labelled(text, b"hint: the loop in line ", asked.line)?;
+    text.extend_from_slice(b" goes on while ")?;
+    push_comparison(text, bound, limit)?;
+    text.extend_from_slice(if holds { b", and " } else { b", but behind that test " })?;
+    text.extend_from_slice(bound.name.as_slice())?;
+    push_labelled(text, b" came to ", value)?;
+    text.extend_from_slice(b"\n")
+}
+
+/// Appends which loop, by its condition, lets an index that names these variables come to be outside of its array in a line
+/// of a task. The error is that memory is out.
+pub fn push_bound<'a>(
+    alloc: Global,
+    text: &mut Vec<u8>,
+    task: &'a TaskText,
+    line: u32,
+    names: &[&'a Name],
+    env: &Env,
+) -> Result<(), AllocError> {
+    let statements = statements_of(alloc, task)?;
+    let loops = loops_at(alloc, task, Place::Statement(line))?;
+    let mut followed = Vec::new(alloc);
+    for name in names {
+        followed.push(*name)?;
+    }
+    for _ in 0..MOST_FOLLOWED {
+        follow(&mut followed, &statements)?;
+    }
+    match asked_at(&followed, &statements, &loops, line) {
+        Some(asked) => push_asked(text, env, asked),
+        None => Ok(()),
+    }
+}
