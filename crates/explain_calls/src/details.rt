@@ -1,16 +1,16 @@
 // What is told of a run that is stuck, after its front.
 
 use crate::halted::Halted;
-use crate::indices::push_index;
+use crate::indices::{env_of, push_index};
 use gp_base::{LockNo, ThreadNo, Why};
 use one_thread::{Standing, Step};
 use run_hints::{
-    Place, push_alike, push_chain, push_circle, push_ended, push_forks, push_loops, push_many,
-    push_names,
+    Place, push_alike, push_bound, push_chain, push_circle, push_ended, push_forks, push_kept,
+    push_loops, push_many, push_names, push_own_join, put_controls, statements_of,
 };
 use run_views::{push_between, push_labelled, push_lock};
 use std::alloc::{AllocError, Global};
-use task_ast::{Head, Next, SyncOp};
+use task_ast::{Head, Next, SyncOp, What};
 
 // How many threads have their control variables told, and of how many locks it is told who holds them.
 const MOST_TOLD: usize = 20;
@@ -29,11 +29,7 @@ fn taking_lines(alloc: Global, order: &[Step], count: usize) -> Result<Vec<u32>,
 }
 
 // Which locks somebody waits for, by their numbers, of which there are so many.
-fn wanted_locks(
-    alloc: Global,
-    standing: &Standing,
-    count: usize,
-) -> Result<Vec<bool>, AllocError> {
+fn wanted_locks(alloc: Global, standing: &Standing, count: usize) -> Result<Vec<bool>, AllocError> {
     let mut wanted = Vec::from_elem(alloc, false, count)?;
     for next in standing.nexts.as_slice() {
         if let Some(next) = next {
@@ -106,7 +102,11 @@ fn push_holders(
         return Ok(());
     }
     push_many(text, left, b" more lock")?;
-    text.extend_from_slice(if left == 1 { b" is held\n" } else { b" are held\n" })
+    text.extend_from_slice(if left == 1 {
+        b" is held\n"
+    } else {
+        b" are held\n"
+    })
 }
 
 // Appends the control variables of a thread, where it has any.
@@ -157,7 +157,11 @@ fn next_of(standing: &Standing, thread: ThreadNo) -> Option<&Next> {
 }
 
 // Appends which thread is joined that is not there.
-fn push_join(text: &mut Vec<u8>, thread: ThreadNo, standing: &Standing) -> Result<(), AllocError> {
+fn push_joined(
+    text: &mut Vec<u8>,
+    thread: ThreadNo,
+    standing: &Standing,
+) -> Result<(), AllocError> {
     let Some(next) = next_of(standing, thread) else {
         return Ok(());
     };
@@ -173,6 +177,31 @@ fn push_join(text: &mut Vec<u8>, thread: ThreadNo, standing: &Standing) -> Resul
     push_between(text, b"", threads.saturating_sub(1), b"\n")
 }
 
+// Appends which loop lets the number of a thread come so far that is joined in a line, and the variables of the thread that
+// joins it.
+fn push_join_bound(
+    alloc: Global,
+    text: &mut Vec<u8>,
+    halted: Halted<'_>,
+    thread: ThreadNo,
+    line: u32,
+) -> Result<(), AllocError> {
+    let Some(task) = halted.tasks.task_of(halted.program(), thread) else {
+        return Ok(());
+    };
+    let env = env_of(alloc, halted.request, halted.standing, thread)?;
+    let mut names = Vec::new(alloc);
+    for stmt in &statements_of(alloc, task)? {
+        if let What::Join(e, _) = &stmt.what {
+            if stmt.line == line {
+                put_controls(&mut names, e)?;
+            }
+        }
+    }
+    push_bound(alloc, text, task, line, &names, &env)?;
+    push_names(text, thread, env.names.as_slice())
+}
+
 // Appends where a thread forks one thread too many, in which loops, and which threads led to it.
 fn push_too_many(
     alloc: Global,
@@ -182,7 +211,12 @@ fn push_too_many(
     line: u32,
 ) -> Result<(), AllocError> {
     let threads = halted.standing.nexts.len();
-    push_between(text, b"", threads, b" threads are there, the most there may be\n")?;
+    push_between(
+        text,
+        b"",
+        threads,
+        b" threads are there, the most there may be\n",
+    )?;
     push_forks(alloc, text, halted.order)?;
     push_chain(alloc, text, halted.order, thread)?;
     let loops = halted.loops_of(alloc, thread, Place::Subthread(line))?;
@@ -212,12 +246,17 @@ pub fn push_stuck_details(
             let heads = halted.program().heads.as_slice();
             push_alike(alloc, text, heads, standing)?;
             push_ended(alloc, text, halted.order, standing)?;
+            push_own_join(text, standing)?;
+            push_kept(text, heads, standing)?;
             push_holders(alloc, text, heads, halted.order, standing)?;
             push_circle(alloc, text, heads, standing)?;
             push_waiting(text, standing)
         }
         Why::Index => push_index(alloc, text, halted.request, source, thread, line, standing),
-        Why::Join => push_join(text, thread, standing),
+        Why::Join => {
+            push_joined(text, thread, standing)?;
+            push_join_bound(alloc, text, halted, thread, line)
+        }
         Why::Threads => push_too_many(alloc, text, halted, thread, line),
     }
 }

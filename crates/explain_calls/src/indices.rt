@@ -312,6 +312,22 @@ fn names_again(
     Ok(names)
 }
 
+/// What a thread reads its expressions under. The error is that memory is out.
+pub fn env_of(
+    alloc: Global,
+    request: &Request,
+    standing: &Standing,
+    thread: ThreadNo,
+) -> Result<Env, AllocError> {
+    let heads = request.checked.program().heads.as_slice();
+    Ok(Env {
+        names: names_again(alloc, standing, thread)?,
+        regs: Seq::new(alloc),
+        me: thread,
+        feeds: named_feeds(alloc, request, heads)?,
+    })
+}
+
 /// Appends which cell is not there that a thread names in a line of this program, that line, and the control variables of
 /// the thread. The error is that memory is out.
 pub fn push_index(
@@ -325,12 +341,7 @@ pub fn push_index(
 ) -> Result<(), AllocError> {
     let program: &Program = request.checked.program();
     let heads = program.heads.as_slice();
-    let env = Env {
-        names: names_again(alloc, standing, thread)?,
-        regs: Seq::new(alloc),
-        me: thread,
-        feeds: named_feeds(alloc, request, heads)?,
-    };
+    let env = env_of(alloc, request, standing, thread)?;
     let here = Here { heads, env: &env };
     for task in program.tasks.as_slice() {
         let body = task.body.as_slice();

@@ -4,7 +4,7 @@ use crate::loops::{Place, loops_at};
 use crate::statements::{is_among, put_controls, statements_of, value_of};
 use gp_base::Name;
 use run_counts::Loop;
-use run_views::push_labelled;
+use run_views::{push_between, push_labelled};
 use std::alloc::{AllocError, Global};
 use task_ast::{Env, Expr, Op, Stmt, TaskText, What, apply, eval_d};
 
@@ -83,16 +83,50 @@ fn bound_in<'a>(names: &[&Name], condition: &'a Expr) -> Option<Bound<'a>> {
     None
 }
 
-// Adds the variables from which those of these names are computed.
+// Whether an expression names a cell of a feed.
+fn has_cell(e: &Expr) -> bool {
+    match e {
+        Expr::Cell(_, _, _) => true,
+        Expr::Neg(a) => has_cell(a),
+        Expr::Not(a) => has_cell(a),
+        Expr::Chain(first, links) => {
+            if has_cell(first) {
+                return true;
+            }
+            for link in links.as_slice() {
+                if has_cell(&link.1) {
+                    return true;
+                }
+            }
+            false
+        }
+        Expr::Num(_) | Expr::Ctl(_) | Expr::Reg(_) | Expr::Me | Expr::Rows(_) => false,
+    }
+}
+
+// Adds the variables from which those of these names are computed, but for those that only choose a row of a feed.
 fn follow<'a>(names: &mut Vec<&'a Name>, statements: &[&'a Stmt]) -> Result<(), AllocError> {
     for stmt in statements {
         if let What::SetCtl(name, e) = &stmt.what {
-            if is_among(names, name) {
+            if is_among(names, name) && !has_cell(e) {
                 put_controls(names, e)?;
             }
         }
     }
     Ok(())
+}
+
+// The last statement before a line, or in it, that sets one of these variables to what a feed holds.
+fn fed_by<'a>(names: &[&Name], statements: &[&'a Stmt], line: u32) -> Option<(&'a Name, u32)> {
+    let mut found = None;
+    for stmt in statements {
+        if let What::SetCtl(name, e) = &stmt.what {
+            if stmt.line <= line && is_among(names, name) && has_cell(e) {
+                found = Some((name, stmt.line));
+            }
+        }
+    }
+    found
 }
 
 // Where a bound stands, and how the condition is asked.
@@ -171,7 +205,11 @@ fn push_asked(text: &mut Vec<u8>, env: &Env, asked: Asked<'_>) -> Result<(), All
     push_labelled(text, b"hint: the loop in line ", asked.line)?;
     text.extend_from_slice(b" goes on while ")?;
     push_comparison(text, bound, limit)?;
-    text.extend_from_slice(if holds { b", and " } else { b", but behind that test " })?;
+    text.extend_from_slice(if holds {
+        b", and "
+    } else {
+        b", but behind that test "
+    })?;
     text.extend_from_slice(bound.name.as_slice())?;
     push_labelled(text, b" came to ", value)?;
     text.extend_from_slice(b"\n")
@@ -195,6 +233,16 @@ pub fn push_bound<'a>(
     }
     for _ in 0..MOST_FOLLOWED {
         follow(&mut followed, &statements)?;
+    }
+    if let Some((name, set)) = fed_by(names, &statements, line) {
+        text.extend_from_slice(b"hint: ")?;
+        text.extend_from_slice(name.as_slice())?;
+        return push_between(
+            text,
+            b" comes from a feed, in line ",
+            set,
+            b": test such a number before it is an index\n",
+        );
     }
     match asked_at(&followed, &statements, &loops, line) {
         Some(asked) => push_asked(text, env, asked),

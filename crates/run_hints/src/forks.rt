@@ -91,5 +91,10 @@ pub fn push_chain(
     push_labelled(text, b"hint: thread ", thread.0)?;
     push_labelled(text, b" was forked by thread ", parent)?;
     push_labelled(text, b", that by thread ", at(&parents, parent as usize))?;
-    push_between(text, b", and so on, ", length, b" threads deep: a task that forks itself has to end somewhere\n")
+    push_between(
+        text,
+        b", and so on, ",
+        length,
+        b" threads deep: a task that forks itself has to end somewhere\n",
+    )
 }

@@ -25,5 +25,5 @@ pub use results::push_results;
 pub use statements::{put_controls, statements_of, value_of};
 pub use threads::{Tasks, child_of, push_names, push_values};
 pub use unset::push_unset;
-pub use waiting::push_alike;
+pub use waiting::{push_alike, push_kept, push_own_join};
 pub use words::{at, push_many, put};

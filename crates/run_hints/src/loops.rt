@@ -1,7 +1,8 @@
 // The loops around a place, and what their conditions name.
 
-use crate::statements::{put_controls, value_of};
+use crate::statements::{put_controls, statements_in, value_of};
 use crate::threads::push_variable;
+use crate::unset::control;
 use crate::words::push_many;
 use gp_base::Name;
 use run_counts::{Loop, Turned};
@@ -51,6 +52,7 @@ fn push_around<'a>(
                 loops.push(Loop {
                     line: stmt.line,
                     condition,
+                    body: body.as_slice(),
                 })?;
                 let found = is_at(stmt, place) || push_around(loops, body.as_slice(), place)?;
                 if !found {
@@ -110,6 +112,17 @@ pub fn push_loops(text: &mut Vec<u8>, loops: &[Loop<'_>]) -> Result<(), AllocErr
     push_outer(text, loops)
 }
 
+// Whether a statement of a block sets one of these control variables.
+fn some_are_set(alloc: Global, names: &[&Name], block: &[Stmt]) -> Result<bool, AllocError> {
+    let statements = statements_in(alloc, block)?;
+    for name in names {
+        if control(name).setting_line(&statements).is_some() {
+            return Ok(true);
+        }
+    }
+    Ok(false)
+}
+
 // Appends how many turns a loop took since it was entered, and the control variables that its condition names, with their
 // values.
 fn push_condition(
@@ -132,7 +145,14 @@ fn push_condition(
         push_variable(text, between, name, value_of(values, name))?;
         between = b", ";
     }
-    text.extend_from_slice(b"\n")
+    if some_are_set(alloc, &names, turned.around.body)? {
+        return text.extend_from_slice(b"\n");
+    }
+    text.extend_from_slice(if names.len() == 1 {
+        b"; nothing in the loop sets it\n"
+    } else {
+        b"; nothing in the loop sets any of them\n"
+    })
 }
 
 // Puts a loop among others by its turns, after those with more of them, and after those around it with as many.

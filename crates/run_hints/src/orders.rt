@@ -232,7 +232,5 @@ pub fn push_crossing(
     push_taking(text, heads, crossing.first, crossing.low, crossing.high)?;
     text.extend_from_slice(b", and ")?;
     push_taking(text, heads, crossing.second, crossing.high, crossing.low)?;
-    text.extend_from_slice(
-        b": this run ended, and with other rows each may wait for the other\n",
-    )
+    text.extend_from_slice(b": this run ended, and with other rows each may wait for the other\n")
 }

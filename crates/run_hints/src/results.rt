@@ -109,7 +109,12 @@ fn push_loss(text: &mut Vec<u8>, thread: ThreadNo, loss: Loss) -> Result<(), All
         Loss::Joined { setting, joining } => {
             push_labelled(text, b"hint: line ", joining)?;
             push_labelled(text, b" joins thread ", thread.0)?;
-            push_between(text, b" without `into`, so the $ret of line ", setting, b" is lost\n")
+            push_between(
+                text,
+                b" without `into`, so the $ret of line ",
+                setting,
+                b" is lost\n",
+            )
         }
         Loss::Unjoined { setting } => {
             push_labelled(text, b"hint: no join takes the $ret of line ", setting)?;
@@ -117,7 +122,12 @@ fn push_loss(text: &mut Vec<u8>, thread: ThreadNo, loss: Loss) -> Result<(), All
         }
         Loss::Unset { joining } => {
             push_labelled(text, b"hint: line ", joining)?;
-            push_between(text, b" takes the $ret of thread ", thread.0, b", which nothing sets: it is 0\n")
+            push_between(
+                text,
+                b" takes the $ret of thread ",
+                thread.0,
+                b", which nothing sets: it is 0\n",
+            )
         }
     }
 }

@@ -24,11 +24,16 @@ fn put_statements<'a>(all: &mut Vec<&'a Stmt>, block: &'a [Stmt]) -> Result<(), 
     Ok(())
 }
 
-/// The statements of a task in text order, those in blocks too. The error is that memory is out.
-pub fn statements_of<'a>(alloc: Global, task: &'a TaskText) -> Result<Vec<&'a Stmt>, AllocError> {
+/// The statements of a block in text order, those in its blocks too. The error is that memory is out.
+pub fn statements_in<'a>(alloc: Global, block: &'a [Stmt]) -> Result<Vec<&'a Stmt>, AllocError> {
     let mut all = Vec::new(alloc);
-    put_statements(&mut all, task.body.as_slice())?;
+    put_statements(&mut all, block)?;
     Ok(all)
+}
+
+/// The statements of a task in text order. The error is that memory is out.
+pub fn statements_of<'a>(alloc: Global, task: &'a TaskText) -> Result<Vec<&'a Stmt>, AllocError> {
+    statements_in(alloc, task.body.as_slice())
 }
 
 /// Whether a name is one of these.

@@ -21,13 +21,18 @@ pub struct Variable<'a> {
 /// What a thread gives back.
 pub const GIVEN_BACK: &[u8] = b"ret";
 
+/// A control variable.
+pub fn control(name: &Name) -> Variable<'_> {
+    Variable {
+        name: name.as_slice(),
+        is_data: false,
+    }
+}
+
 impl<'a> Variable<'a> {
     fn of(param: &'a Param) -> Variable<'a> {
         match param {
-            Param::Ctl(name) => Variable {
-                name: name.as_slice(),
-                is_data: false,
-            },
+            Param::Ctl(name) => control(name),
             Param::Reg(name) => Variable {
                 name: name.as_slice(),
                 is_data: true,
@@ -154,7 +159,11 @@ fn variables_of<'a>(alloc: Global, task: &'a TaskText) -> Result<Vec<Variable<'a
 // Appends that a line reads a variable that nothing sets.
 fn push_one(text: &mut Vec<u8>, line: u32, variable: Variable<'_>) -> Result<(), AllocError> {
     push_labelled(text, b"hint: line ", line)?;
-    text.extend_from_slice(if variable.is_data { b" reads $" } else { b" reads " })?;
+    text.extend_from_slice(if variable.is_data {
+        b" reads $"
+    } else {
+        b" reads "
+    })?;
     text.extend_from_slice(variable.name)?;
     text.extend_from_slice(b", which nothing sets: it is 0\n")
 }

@@ -12,7 +12,11 @@ const FEWEST: usize = 12;
 
 // How many groups are told, and how many stretches of thread numbers of each.
 const MOST_GROUPS: usize = 20;
+
 const MOST_STRETCHES: usize = 4;
+
+// How many threads are told that keep a lock while they wait.
+const MOST_KEPT: usize = 4;
 
 // Threads from one number to another.
 #[derive(Clone, Copy)]
@@ -114,7 +118,9 @@ fn push_stretches(text: &mut Vec<u8>, group: &Group<'_>) -> Result<(), AllocErro
         if stretch.from < stretch.to {
             push_labelled(text, b" to ", stretch.to)?;
         }
-        told = told.saturating_add(1).saturating_add(stretch.to.saturating_sub(stretch.from));
+        told = told
+            .saturating_add(1)
+            .saturating_add(stretch.to.saturating_sub(stretch.from));
         between = b", ";
     }
     if told < group.count {
@@ -207,12 +213,93 @@ pub fn push_alike(
     if count < FEWEST || groups.len() == count {
         return Ok(());
     }
-    push_between(text, b"hint: of these ", count, b" threads these wait alike:\n")?;
+    push_between(
+        text,
+        b"hint: of these ",
+        count,
+        b" threads these wait alike:\n",
+    )?;
     let told = push_groups(text, heads, standing, &groups)?;
     if told < count {
         text.extend_from_slice(b"and ")?;
         push_many(text, count.saturating_sub(told) as u64, b" more thread")?;
         text.extend_from_slice(b"\n")?;
+    }
+    Ok(())
+}
+
+// The line in which a thread waits for others, at a join or a barrier.
+fn meeting_line(standing: &Standing, thread: usize) -> Option<u32> {
+    let next = standing.nexts.get(thread)?.as_ref()?;
+    match next.sync {
+        SyncOp::Join(_) => Some(next.line),
+        SyncOp::Barrier(_) => Some(next.line),
+        _ => None,
+    }
+}
+
+// How many threads wait for a lock.
+fn waiting_for(standing: &Standing, wanted: LockNo) -> usize {
+    let mut count: usize = 0;
+    for next in standing.nexts.as_slice() {
+        if let Some(next) = next {
+            if matches!(next.sync, SyncOp::Lock(lock) if lock.0 == wanted.0) {
+                count = count.saturating_add(1);
+            }
+        }
+    }
+    count
+}
+
+/// Appends the first threads that keep a lock for which others wait, while they wait themselves at a join or a barrier. The
+/// error is that memory is out.
+pub fn push_kept(
+    text: &mut Vec<u8>,
+    heads: &[Head],
+    standing: &Standing,
+) -> Result<(), AllocError> {
+    let mut told: usize = 0;
+    let mut number: u32 = 0;
+    for owner in standing.owners.as_slice() {
+        let lock = LockNo(number);
+        number = number.saturating_add(1);
+        let Some(owner) = owner else {
+            continue;
+        };
+        let Some(line) = meeting_line(standing, *owner) else {
+            continue;
+        };
+        if told < MOST_KEPT && waiting_for(standing, lock) > 0 {
+            push_labelled(text, b"hint: thread ", *owner)?;
+            text.extend_from_slice(b" keeps ")?;
+            push_lock(text, heads, lock)?;
+            push_between(
+                text,
+                b" while it waits in line ",
+                line,
+                b": give the lock back before\n",
+            )?;
+            told = told.saturating_add(1);
+        }
+    }
+    Ok(())
+}
+
+/// Appends the first thread that waits for itself to end. The error is that memory is out.
+pub fn push_own_join(text: &mut Vec<u8>, standing: &Standing) -> Result<(), AllocError> {
+    let mut thread: i64 = 0;
+    for next in standing.nexts.as_slice() {
+        if let Some(next) = next {
+            if matches!(next.sync, SyncOp::Join(joined) if joined == thread) {
+                return push_between(
+                    text,
+                    b"hint: thread ",
+                    thread,
+                    b" joins itself: 0 is main, and the forks make threads 1, 2 and so on\n",
+                );
+            }
+        }
+        thread = thread.saturating_add(1);
     }
     Ok(())
 }

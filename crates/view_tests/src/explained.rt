@@ -208,6 +208,7 @@ const ITSELF: &str = "task main() { join 0; }";
 
 const ITSELF_TOLD: &str = "stuck deadlock thread 0 line 1
 thread 0 line 1 waits for thread 0 to end
+hint: thread 0 joins itself: 0 is main, and the forks make threads 1, 2 and so on
 1 subthread, 1 thread, 0 locks taken; at most 1 subthread side by side
 arithmetic: exact in every line that ran
 ";
@@ -551,7 +552,7 @@ const ROUNDS_TOLD: &str = "spent 2
 thread 0: i = 0, k = 1, n = 0
 hint: the condition of one of these loops may stay true, of the first most likely:
 loop in line 7, 2 turns since it was entered: k = 1, n = 0, i = 0
-loop in line 5, 1 turn since it was entered: i = 0
+loop in line 5, 1 turn since it was entered: i = 0; nothing in the loop sets it
 hint: --subthreads allows up to 200000, for a batch that ends
 2 subthreads, 1 thread, 1 lock taken; at most 1 subthread side by side
 arithmetic: exact in every line that ran

@@ -185,7 +185,52 @@ thread 0: i = 2
 arithmetic: exact in every line that ran
 ";
 
-const BOUNDS: [Row; 3] = [
+const FED: &str = "feed moves[2] from \"moves.csv\";
+lock bank[3];
+task main() {
+  var i, who;
+  while i < rows(moves) {
+    who = moves[i, 0];
+    lock bank[who];
+    unlock bank[who];
+    i = i + 1;
+  }
+}
+";
+
+const FED_TOLD: &str = "stuck index thread 0 line 7
+bank[who] with who = 3; bank has 3 cells, 0 to 2
+    lock bank[who];
+         ^
+hint: who comes from a feed, in line 6: test such a number before it is an index
+thread 0: i = 1, who = 3
+3 subthreads, 1 thread, 1 lock taken; at most 1 subthread side by side
+arithmetic: exact in every line that ran
+";
+
+const JOINS: &str = "task t() { }
+task main() {
+  var i;
+  fork t();
+  i = 1;
+  while i <= 2 {
+    join i;
+    i = i + 1;
+  }
+}
+";
+
+const JOINS_TOLD: &str = "stuck join thread 0 line 7
+thread 2 is joined; there are 2 threads, 0 to 1
+hint: the loop in line 6 goes on while i <= 2, and i came to 2
+thread 0: i = 2
+4 subthreads, 2 threads, 0 locks taken; at most 1 subthread side by side
+arithmetic: exact in every line that ran
+";
+
+const BOUNDS: [Row; 5] = [
+    ("explain p.gp", FED, "0,1\n3,1\n", 5, FED_TOLD, ""),
+    ("explain p.gp", JOINS, "", 5, JOINS_TOLD, ""),
     ("explain p.gp", BEYOND, "1,2\n3,4\n", 5, BEYOND_TOLD, ""),
     ("explain p.gp", BEHIND, "1,2\n3,4\n", 5, BEHIND_TOLD, ""),
     ("explain p.gp", WHOLE, "1,2\n3,4\n", 5, WHOLE_TOLD, ""),
@@ -225,6 +270,7 @@ thread 12 line 3 waits for lock l[0] of thread 0
 hint: of these 13 threads these wait alike:
 threads 1 to 12 line 3 wait for lock l[0] of thread 0
 and 1 more thread
+hint: thread 0 keeps l[0] while it waits in line 13: give the lock back before
 thread 0 holds l[0], taken in line 8
 thread 0: i = 12
 26 subthreads, 13 threads, 1 lock taken; at most 2 subthreads side by side
@@ -245,7 +291,7 @@ hint: line 4 forked 4095 threads
 thread 0 forks in line 4, in the loop in line 4
 thread 0: i = 0
 hint: the condition of this loop may stay true:
-loop in line 4, 4096 turns since it was entered: i = 0
+loop in line 4, 4096 turns since it was entered: i = 0; nothing in the loop sets it
 8191 subthreads, 4096 threads, 0 locks taken; at most 2 subthreads side by side
 arithmetic: exact in every line that ran
 hint: line 4 reads i, which nothing sets: it is 0
