@@ -1,5 +1,5 @@
 // What is told of a run.
-ghost use Rattle.std.specs.Prelude.{◌≡◌, ◌++◌, List, [], length, ⊥, IfOk, OnOk, MatchOption};
+ghost use Rattle.std.specs.Prelude.{◌≡◌, ◌++◌, List, [], length, IfOk, OnOk};
 ghost use Rattle.task_ast.specs.declared.tree.Program.{Program as ProgramThere};
 ghost use Rattle.task_ast.specs.meaning.Run.{Run};
 ghost use Rattle.task_ast.specs.Plain.{order, end};
@@ -69,20 +69,20 @@ fn push_stuck(
     }
 }
 
-// Where the threads stand after the last of so many subthreads, or none where the run has fewer.
-fn last_standing(
-    alloc: Global,
-    request: &Request,
-    position: usize,
-) -> Result<Option<Standing>, AllocError>
+// Where the threads stand after the last of so many subthreads. A run of so many has such a place, so that the error is that
+// memory is out.
+fn last_standing(alloc: Global, request: &Request, position: usize) -> Result<Standing, AllocError>
     requires { let work = work_of request.now in position ≡ length (order work.program work.inputs work.limits) }
-    ensures { let work = work_of request.now in let here = before work.program work.inputs work.limits position in IfOk result (λ standing. MatchOption standing ⊥ (Stands here.table here.points)) }
+    ensures { let work = work_of request.now in let here = before work.program work.inputs work.limits position in IfOk result (Stands here.table here.points) }
 {
     let limits = request.asked.limits;
     let Ok(position) = u32::try_from(position) else {
         return Err(AllocError);
     };
-    stand_before(alloc, &request.checked, &request.inputs, limits, position)
+    match stand_before(alloc, &request.checked, &request.inputs, limits, position)? {
+        Some(standing) => Ok(standing),
+        None => Err(AllocError),
+    }
 }
 
 // The front of what is told of a run. What stands after it goes to `rest`.
@@ -104,9 +104,7 @@ fn front_of(
         End::Finished => Ok(text),
         End::Spent(_) => Ok(text),
         End::Stuck { why, thread, line } => {
-            let Some(standing) = last_standing(alloc, request, run.order.len())? else {
-                return Ok(text);
-            };
+            let standing = last_standing(alloc, request, run.order.len())?;
             push_stuck(alloc, &mut text, heads, run.end, &standing)?;
             let halted = Halted {
                 request,
