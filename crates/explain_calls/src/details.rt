@@ -5,14 +5,16 @@ use crate::indices::{env_of, push_index};
 use gp_base::{LockNo, ThreadNo, Why};
 use one_thread::{Standing, Step};
 use run_hints::{
-    Place, push_alike, push_bound, push_chain, push_circle, push_ended, push_forks, push_kept,
-    push_loops, push_many, push_names, push_own_join, put_controls, statements_of,
+    Place, push_alike, push_bound, push_chain, push_circle, push_ended, push_forks, push_gathered,
+    push_kept, push_loops, push_many, push_names, push_own_join, put_controls, statements_of,
 };
 use run_views::{push_between, push_labelled, push_lock};
 use std::alloc::{AllocError, Global};
 use task_ast::{Head, Next, SyncOp, What};
 
 // How many threads have their control variables told, and of how many locks it is told who holds them.
+const MOST_VARIABLES: usize = 12;
+
 const MOST_TOLD: usize = 20;
 
 // The lines in which locks were last taken, by their numbers, of which there are so many.
@@ -135,7 +137,7 @@ fn push_waiting(text: &mut Vec<u8>, standing: &Standing) -> Result<(), AllocErro
     let mut left: u64 = 0;
     let mut thread: u32 = 0;
     for next in standing.nexts.as_slice() {
-        if waits(next) && told < MOST_TOLD {
+        if waits(next) && told < MOST_VARIABLES {
             push_names_of(text, ThreadNo(thread), standing)?;
             told = told.saturating_add(1);
         } else if waits(next) {
@@ -246,6 +248,7 @@ pub fn push_stuck_details(
             let heads = halted.program().heads.as_slice();
             push_alike(alloc, text, heads, standing)?;
             push_ended(alloc, text, halted.order, standing)?;
+            push_gathered(alloc, text, heads, halted.order, standing)?;
             push_own_join(text, standing)?;
             push_kept(text, heads, standing)?;
             push_holders(alloc, text, heads, halted.order, standing)?;

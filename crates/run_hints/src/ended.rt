@@ -1,9 +1,10 @@
-// The threads that have ended, where others wait at a barrier.
+// The threads that have ended, where others wait at a barrier, and how many come to one.
 
+use gp_base::Name;
 use one_thread::{Standing, Step};
 use run_views::{push_between, push_labelled};
 use std::alloc::{AllocError, Global};
-use task_ast::{Next, SyncOp};
+use task_ast::{Head, Next, SyncOp, natural};
 
 // How many threads that have ended are told by their numbers.
 const MOST_ENDED: u64 = 8;
@@ -87,4 +88,89 @@ pub fn push_ended(
         return Ok(());
     }
     text.extend_from_slice(b"\n")
+}
+
+fn is_barrier(sync: &SyncOp, number: u32) -> bool {
+    match sync {
+        SyncOp::Barrier(other) => *other == number,
+        _ => false,
+    }
+}
+
+fn mark(came: &mut Vec<bool>, thread: usize) {
+    if let Some(place) = came.get_mut(thread) {
+        *place = true;
+    }
+}
+
+// How many threads came to a barrier, and how many of them stand there.
+fn came_to(
+    alloc: Global,
+    order: &[Step],
+    standing: &Standing,
+    number: u32,
+) -> Result<(u64, u64), AllocError> {
+    let mut came = Vec::from_elem(alloc, false, standing.nexts.len())?;
+    for step in order {
+        if is_barrier(&step.begins.sync, number) {
+            mark(&mut came, step.thread.0 as usize);
+        }
+    }
+    let mut standing_there: u64 = 0;
+    for (thread, next) in standing.nexts.iter().enumerate() {
+        if let Some(next) = next {
+            if is_barrier(&next.sync, number) {
+                mark(&mut came, thread);
+                standing_there = standing_there.saturating_add(1);
+            }
+        }
+    }
+    let mut count: u64 = 0;
+    for is_one in &came {
+        if *is_one {
+            count = count.saturating_add(1);
+        }
+    }
+    Ok((count, standing_there))
+}
+
+// Appends that a barrier is of so many threads, and how many others there are.
+fn push_unlike(
+    text: &mut Vec<u8>,
+    name: &Name,
+    wanted: u64,
+    count: u64,
+    what: &[u8],
+) -> Result<(), AllocError> {
+    text.extend_from_slice(b"hint: barrier ")?;
+    text.extend_from_slice(name.as_slice())?;
+    push_between(text, b" is of ", wanted, b" threads, and ")?;
+    push_between(text, what, count, b"\n")
+}
+
+/// Appends the barriers at which threads stand and to which more threads come than they are of, or that are of more threads
+/// than the run has. The error is that memory is out.
+pub fn push_gathered(
+    alloc: Global,
+    text: &mut Vec<u8>,
+    heads: &[Head],
+    order: &[Step],
+    standing: &Standing,
+) -> Result<(), AllocError> {
+    let threads = standing.nexts.len() as u64;
+    let mut barrier: u32 = 0;
+    for head in heads {
+        let Head::BarrierHead { name, number, .. } = head else {
+            continue;
+        };
+        let wanted = natural(*number);
+        let (came, there) = came_to(alloc, order, standing, barrier)?;
+        barrier = barrier.saturating_add(1);
+        if there > 0 && threads < wanted {
+            push_unlike(text, name, wanted, threads, b"the run has ")?;
+        } else if there > 0 && came > wanted {
+            push_unlike(text, name, wanted, came, b"so many come to it: ")?;
+        }
+    }
+    Ok(())
 }

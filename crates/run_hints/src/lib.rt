@@ -17,7 +17,7 @@ mod words;
 
 pub use bounds::push_bound;
 pub use circles::push_circle;
-pub use ended::push_ended;
+pub use ended::{push_ended, push_gathered};
 pub use forks::{busiest, push_chain, push_forks};
 pub use loops::{Place, loops_at, push_conditions, push_loops, push_outer};
 pub use orders::push_crossing;

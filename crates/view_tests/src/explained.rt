@@ -150,6 +150,7 @@ const BARRIER_TOLD: &str = "stuck deadlock thread 0 line 5
 thread 0 line 5 waits for barrier step
 thread 1 line 2 waits for barrier step
 barrier step: 2 of 3 threads are there: 0 1
+hint: barrier step is of 3 threads, and the run has 2
 3 subthreads, 2 threads, 0 locks taken; at most 1 subthread side by side
 arithmetic: exact in every line that ran
 ";
@@ -224,6 +225,7 @@ task main() {
 const LONE_TOLD: &str = "stuck deadlock thread 0 line 5
 thread 0 line 5 waits for barrier b
 barrier b: 1 of 2 threads is there: 0
+hint: barrier b is of 2 threads, and the run has 1
 2 subthreads, 1 thread, 0 locks taken; at most 1 subthread side by side
 arithmetic: exact in every line that ran
 ";

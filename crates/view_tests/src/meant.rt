@@ -277,6 +277,24 @@ thread 0: i = 12
 arithmetic: exact in every line that ran
 ";
 
+const GATHERED: &str = "barrier start(2);
+task w() { barrier start; }
+task main() {
+  fork w();
+  fork w();
+  barrier start;
+}
+";
+
+const GATHERED_TOLD: &str = "stuck deadlock thread 2 line 2
+thread 2 line 2 waits for barrier start
+barrier start: 1 of 2 threads is there: 2
+hint: thread 0 has ended, after line 6; thread 1, after line 2
+hint: barrier start is of 2 threads, and so many come to it: 3
+7 subthreads, 3 threads, 0 locks taken; at most 3 subthreads side by side
+arithmetic: exact in every line that ran
+";
+
 const FORKS: &str = "task t() { }
 task main() {
   var i;
@@ -339,7 +357,8 @@ hint: --subthreads allows up to 200000, for a batch that ends
 arithmetic: exact in every line that ran
 ";
 
-const HALTS: [Row; 4] = [
+const HALTS: [Row; 5] = [
+    ("explain p.gp", GATHERED, "", 5, GATHERED_TOLD, ""),
     ("explain p.gp", ALIKE, "", 5, ALIKE_TOLD, ""),
     ("explain p.gp", FORKS, "", 5, FORKS_TOLD, ""),
     ("explain p.gp", CHAIN, "", 5, CHAIN_TOLD, ""),
