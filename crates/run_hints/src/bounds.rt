@@ -129,22 +129,33 @@ fn fed_by<'a>(names: &[&Name], statements: &[&'a Stmt], line: u32) -> Option<(&'
     found
 }
 
-// Where a bound stands, and how the condition is asked.
+// What a bound came to, what its variable did, and whether the comparison of both holds.
 #[derive(Clone, Copy)]
-struct Asked<'a> {
-    line: u32,
-    // Whether the cell is named in the condition itself.
-    is_own: bool,
+struct Came<'a> {
     bound: Bound<'a>,
+    limit: i64,
+    value: i64,
+    holds: bool,
 }
 
-// The condition that stands in a line itself.
+fn came_to<'a>(env: &Env, bound: Bound<'a>) -> Option<Came<'a>> {
+    let limit = eval_d(bound.bound, env)?;
+    let value = value_of(env.names.as_slice(), bound.name);
+    Some(Came {
+        bound,
+        limit,
+        value,
+        holds: apply(bound.op, value, limit) != 0,
+    })
+}
+
+// The condition in a line itself, where it names a cell of a feed.
 fn own_condition<'a>(statements: &[&'a Stmt], line: u32) -> Option<&'a Expr> {
     for stmt in statements {
         if stmt.line == line {
             return match &stmt.what {
-                What::While(e, _) => Some(e),
-                What::If(e, _, _) => Some(e),
+                What::While(e, _) if has_cell(e) => Some(e),
+                What::If(e, _, _) if has_cell(e) => Some(e),
                 _ => None,
             };
         }
@@ -152,67 +163,66 @@ fn own_condition<'a>(statements: &[&'a Stmt], line: u32) -> Option<&'a Expr> {
     None
 }
 
-// The bound of one of these variables by the condition in this line, or by that of the innermost loop around it that has one.
-fn asked_at<'a>(
+// The bound of one of these variables in the condition in a line itself, where it does not hold.
+fn own_bound<'a>(
     names: &[&Name],
     statements: &[&'a Stmt],
-    loops: &[Loop<'a>],
     line: u32,
-) -> Option<Asked<'a>> {
-    if let Some(condition) = own_condition(statements, line) {
-        if let Some(bound) = bound_in(names, condition) {
-            return Some(Asked {
-                line,
-                is_own: true,
-                bound,
-            });
-        }
-    }
+    env: &Env,
+) -> Option<Came<'a>> {
+    let condition = own_condition(statements, line)?;
+    let came = came_to(env, bound_in(names, condition)?)?;
+    if came.holds { None } else { Some(came) }
+}
+
+// The bound of one of these variables by the innermost of these loops that has one, with the line of the loop.
+fn loop_bound<'a>(names: &[&Name], loops: &[Loop<'a>], env: &Env) -> Option<(u32, Came<'a>)> {
     for around in loops.iter().rev() {
         if let Some(bound) = bound_in(names, around.condition) {
-            return Some(Asked {
-                line: around.line,
-                is_own: false,
-                bound,
-            });
+            return Some((around.line, came_to(env, bound)?));
         }
     }
     None
 }
 
 // Appends a comparison with the value of its bound.
-fn push_comparison(text: &mut Vec<u8>, bound: Bound<'_>, limit: i64) -> Result<(), AllocError> {
-    text.extend_from_slice(bound.name.as_slice())?;
-    push_labelled(text, sign(bound.op), limit)
+fn push_comparison(text: &mut Vec<u8>, came: Came<'_>) -> Result<(), AllocError> {
+    text.extend_from_slice(came.bound.name.as_slice())?;
+    push_labelled(text, sign(came.bound.op), came.limit)
 }
 
-// Appends how a condition lets an index come to be outside, if it does.
-fn push_asked(text: &mut Vec<u8>, env: &Env, asked: Asked<'_>) -> Result<(), AllocError> {
-    let bound = asked.bound;
-    let Some(limit) = eval_d(bound.bound, env) else {
-        return Ok(());
-    };
-    let value = value_of(env.names.as_slice(), bound.name);
-    let holds = apply(bound.op, value, limit) != 0;
-    if asked.is_own && holds {
-        return Ok(());
-    }
-    if asked.is_own {
-        text.extend_from_slice(b"hint: all parts of a condition are read, also where ")?;
-        push_comparison(text, bound, limit)?;
-        return text.extend_from_slice(b" does not hold: read the cell behind that test\n");
-    }
-    push_labelled(text, b"hint: the loop in line ", asked.line)?;
+// Appends that a condition reads a cell also where its comparison does not hold.
+fn push_own(text: &mut Vec<u8>, came: Came<'_>) -> Result<(), AllocError> {
+    text.extend_from_slice(b"hint: all parts of a condition are read, also where ")?;
+    push_comparison(text, came)?;
+    text.extend_from_slice(b" does not hold: read the cell behind that test\n")
+}
+
+// Appends how the condition of the loop in a line lets an index come to be outside.
+fn push_loop(text: &mut Vec<u8>, line: u32, came: Came<'_>) -> Result<(), AllocError> {
+    push_labelled(text, b"hint: the loop in line ", line)?;
     text.extend_from_slice(b" goes on while ")?;
-    push_comparison(text, bound, limit)?;
-    text.extend_from_slice(if holds {
+    push_comparison(text, came)?;
+    text.extend_from_slice(if came.holds {
         b", and "
     } else {
         b", but behind that test "
     })?;
-    text.extend_from_slice(bound.name.as_slice())?;
-    push_labelled(text, b" came to ", value)?;
+    text.extend_from_slice(came.bound.name.as_slice())?;
+    push_labelled(text, b" came to ", came.value)?;
     text.extend_from_slice(b"\n")
+}
+
+// Appends that a variable comes from a feed.
+fn push_fed(text: &mut Vec<u8>, name: &Name, line: u32) -> Result<(), AllocError> {
+    text.extend_from_slice(b"hint: ")?;
+    text.extend_from_slice(name.as_slice())?;
+    push_between(
+        text,
+        b" comes from a feed, in line ",
+        line,
+        b": test such a number before it is an index\n",
+    )
 }
 
 /// Appends which loop, by its condition, lets an index that names these variables come to be outside of its array in a line
@@ -227,6 +237,9 @@ pub fn push_bound<'a>(
 ) -> Result<(), AllocError> {
     let statements = statements_of(alloc, task)?;
     let loops = loops_at(alloc, task, Place::Statement(line))?;
+    if let Some((name, set)) = fed_by(names, &statements, line) {
+        return push_fed(text, name, set);
+    }
     let mut followed = Vec::new(alloc);
     for name in names {
         followed.push(*name)?;
@@ -234,18 +247,11 @@ pub fn push_bound<'a>(
     for _ in 0..MOST_FOLLOWED {
         follow(&mut followed, &statements)?;
     }
-    if let Some((name, set)) = fed_by(names, &statements, line) {
-        text.extend_from_slice(b"hint: ")?;
-        text.extend_from_slice(name.as_slice())?;
-        return push_between(
-            text,
-            b" comes from a feed, in line ",
-            set,
-            b": test such a number before it is an index\n",
-        );
+    if let Some(came) = own_bound(&followed, &statements, line, env) {
+        return push_own(text, came);
     }
-    match asked_at(&followed, &statements, &loops, line) {
-        Some(asked) => push_asked(text, env, asked),
+    match loop_bound(&followed, &loops, env) {
+        Some((around, came)) => push_loop(text, around, came),
         None => Ok(()),
     }
 }

@@ -213,14 +213,11 @@ task main() {
   var i;
   fork t();
   i = 1;
-  while i <= 2 {
-    join i;
-    i = i + 1;
-  }
+  while i <= 2 { join i; i = i + 1; }
 }
 ";
 
-const JOINS_TOLD: &str = "stuck join thread 0 line 7
+const JOINS_TOLD: &str = "stuck join thread 0 line 6
 thread 2 is joined; there are 2 threads, 0 to 1
 hint: the loop in line 6 goes on while i <= 2, and i came to 2
 thread 0: i = 2
