@@ -111,18 +111,6 @@ fn push_holders(
     })
 }
 
-// Appends the control variables of a thread, where it has any.
-fn push_names_of(
-    text: &mut Vec<u8>,
-    thread: ThreadNo,
-    standing: &Standing,
-) -> Result<(), AllocError> {
-    match standing.names.get(thread.0 as usize) {
-        Some(names) => push_names(text, thread, names.as_slice()),
-        None => Ok(()),
-    }
-}
-
 // Whether a thread waits for something.
 fn waits(next: &Option<Next>) -> bool {
     match next {
@@ -131,17 +119,19 @@ fn waits(next: &Option<Next>) -> bool {
     }
 }
 
-// Appends the control variables of the threads that have not ended, or of the first of them.
+// Appends the control variables of the threads that have not ended and have some, or of the first of them.
 fn push_waiting(text: &mut Vec<u8>, standing: &Standing) -> Result<(), AllocError> {
     let mut told: usize = 0;
     let mut left: u64 = 0;
     let mut thread: u32 = 0;
-    for next in standing.nexts.as_slice() {
-        if waits(next) && told < MOST_VARIABLES {
-            push_names_of(text, ThreadNo(thread), standing)?;
-            told = told.saturating_add(1);
-        } else if waits(next) {
-            left = left.saturating_add(1);
+    for (next, names) in standing.nexts.iter().zip(&standing.names) {
+        if waits(next) && !names.is_empty() {
+            if told < MOST_VARIABLES {
+                push_names(text, ThreadNo(thread), names.as_slice())?;
+                told = told.saturating_add(1);
+            } else {
+                left = left.saturating_add(1);
+            }
         }
         thread = thread.saturating_add(1);
     }
