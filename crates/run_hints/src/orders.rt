@@ -105,14 +105,15 @@ impl Takings {
         lock: LockNo,
         taking: Taking,
     ) -> Result<Option<Crossing>, AllocError> {
-        if let Some(earlier) = self.latest.get(&(lock.0, held.0)) {
+        let earlier = self.latest.get(&(lock.0, held.0)).copied();
+        if let Some(first) = earlier {
             let crossing = Crossing {
-                first: *earlier,
+                first,
                 second: taking,
                 low: lock,
                 high: held,
             };
-            if self.places.might_meet(*earlier, taking) && !share_another(order, crossing) {
+            if self.places.might_meet(first, taking) && !share_another(order, crossing) {
                 return Ok(Some(crossing));
             }
         }
