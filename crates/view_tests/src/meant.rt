@@ -40,11 +40,12 @@ task b() {
   $ret = 6;
   $ret = $ret + 1;
 }
+task c() { $ret = 7; }
 task main() {
   var $x;
   fork a();
   fork b();
-  fork a();
+  fork c();
   join 1;
   join 3 into $x;
   print $x;
@@ -54,7 +55,7 @@ task main() {
 const LOST_TOLD: &str = "ok
 9 subthreads, 4 threads, 0 locks taken; at most 2 subthreads side by side
 arithmetic: exact in every line that ran
-hint: line 11 joins thread 1 without `into`, so the $ret of line 1 is lost
+hint: line 12 joins thread 1 without `into`, so the $ret of line 1 is lost
 hint: no join takes the $ret of line 3 from thread 2
 ";
 
