@@ -57,7 +57,7 @@ fn places_of(alloc: Global, order: &[Step]) -> Result<Places, AllocError> {
 impl Places {
     // Whether a later taking might have met an earlier one of another thread: each thread was there when the other took its
     // locks.
-    fn might_meet(&self, earlier: Taking, later: Taking) -> bool {
+    fn might_meet(&self, earlier: &Taking, later: &Taking) -> bool {
         earlier.thread.0 != later.thread.0
             && at(&self.starts, later.thread.0 as usize) < earlier.position
             && at(&self.lasts, earlier.thread.0 as usize) > later.since
@@ -65,7 +65,7 @@ impl Places {
 }
 
 // Whether two threads hold a third lock at these positions, beside those two: then they cannot wait for each other.
-fn share_another(order: &[Step], crossing: Crossing) -> bool {
+fn share_another(order: &[Step], crossing: &Crossing) -> bool {
     let one = order.get(crossing.first.position.saturating_sub(1) as usize);
     let other = order.get(crossing.second.position.saturating_sub(1) as usize);
     let (Some(one), Some(other)) = (one, other) else {
@@ -113,7 +113,7 @@ impl Takings {
                 low: lock,
                 high: held,
             };
-            if self.places.might_meet(first, taking) && !share_another(order, crossing) {
+            if self.places.might_meet(&first, &taking) && !share_another(order, &crossing) {
                 return Ok(Some(crossing));
             }
         }
