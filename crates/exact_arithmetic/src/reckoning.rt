@@ -35,7 +35,7 @@ fn reckon_in(e: &Expr, env: &Env, regs: &[(Name, i64)], exact: &mut bool) -> Opt
             reckon_in(field, env, &[], exact)?;
             eval_in(e, env, regs)
         }
-        Expr::Num(_) => eval_in(e, env, regs),
+        Expr::Num(value) => Some(*value),
         Expr::Ctl(_) => eval_in(e, env, regs),
         Expr::Reg(_) => eval_in(e, env, regs),
         Expr::Me => eval_in(e, env, regs),

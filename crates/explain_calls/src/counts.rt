@@ -1,9 +1,9 @@
 // How much a run did, how much of it side by side, and in which lines its arithmetic was not exact.
 
-use crate::threads::{Tasks, child_of, push_values};
 use one_thread::{PlainRun, Step};
 use run_counts::{Counting, Slip};
-use run_views::{push_between, push_labelled, push_number};
+use run_hints::{Tasks, at, child_of, push_many, push_values, put};
+use run_views::{push_between, push_labelled};
 use std::alloc::{AllocError, Global};
 use task_ast::{Program, SyncOp};
 
@@ -14,26 +14,6 @@ struct Levels {
     threads: Vec<u32>,
     locks: Vec<u32>,
     widths: Vec<u32>,
-}
-
-// The number at a place, or 0 past the end.
-fn at(numbers: &[u32], place: usize) -> u32 {
-    match numbers.get(place) {
-        Some(number) => *number,
-        None => 0,
-    }
-}
-
-// Puts a number at a place, after so many zeros as are wanted.
-fn put(numbers: &mut Vec<u32>, place: usize, number: u32) -> Result<(), AllocError> {
-    let missing = place.saturating_add(1).saturating_sub(numbers.len());
-    for _ in 0..missing {
-        numbers.push(0)?;
-    }
-    if let Some(slot) = numbers.get_mut(place) {
-        *slot = number;
-    }
-    Ok(())
 }
 
 impl Levels {
@@ -100,16 +80,6 @@ fn counted(order: &[Step]) -> (usize, usize) {
         }
     }
     (threads, locks)
-}
-
-/// Appends how many of a thing there are.
-pub fn push_many(text: &mut Vec<u8>, count: u64, thing: &[u8]) -> Result<(), AllocError> {
-    push_number(text, count)?;
-    text.extend_from_slice(thing)?;
-    if count != 1 {
-        text.extend_from_slice(b"s")?;
-    }
-    Ok(())
 }
 
 // A run of a program, with what was noted of it, and the tasks of its threads.

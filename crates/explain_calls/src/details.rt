@@ -1,19 +1,21 @@
 // What is told of a run that is stuck, after its front.
 
-use crate::circles::push_circle;
-use crate::counts::push_many;
-use crate::ended::push_ended;
-use crate::indices::push_index;
-use crate::threads::push_names;
-use call_cases::Request;
+use crate::halted::Halted;
+use crate::indices::{env_of, push_index};
 use gp_base::{LockNo, ThreadNo, Why};
 use one_thread::{Standing, Step};
+use run_hints::{
+    Place, push_alike, push_bound, push_chain, push_circle, push_ended, push_forks, push_gathered,
+    push_kept, push_loops, push_many, push_names, push_own_join, put_controls, statements_of,
+};
 use run_views::{push_between, push_labelled, push_lock};
 use std::alloc::{AllocError, Global};
-use task_ast::{Head, Next, SyncOp};
+use task_ast::{Head, Next, SyncOp, What};
 
 // How many threads have their control variables told, and of how many locks it is told who holds them.
-const MOST_TOLD: usize = 100;
+const MOST_VARIABLES: usize = 12;
+
+const MOST_TOLD: usize = 20;
 
 // The lines in which locks were last taken, by their numbers, of which there are so many.
 fn taking_lines(alloc: Global, order: &[Step], count: usize) -> Result<Vec<u32>, AllocError> {
@@ -28,7 +30,56 @@ fn taking_lines(alloc: Global, order: &[Step], count: usize) -> Result<Vec<u32>,
     Ok(lines)
 }
 
-// Appends who holds which locks, and where they were taken, of the first locks that are held.
+// Which locks somebody waits for, by their numbers, of which there are so many.
+fn wanted_locks(alloc: Global, standing: &Standing, count: usize) -> Result<Vec<bool>, AllocError> {
+    let mut wanted = Vec::from_elem(alloc, false, count)?;
+    for next in standing.nexts.as_slice() {
+        if let Some(next) = next {
+            if let SyncOp::Lock(lock) = &next.sync {
+                if let Some(place) = wanted.get_mut(lock.0 as usize) {
+                    *place = true;
+                }
+            }
+        }
+    }
+    Ok(wanted)
+}
+
+// A lock that is held.
+#[derive(Clone, Copy)]
+struct Holding {
+    lock: LockNo,
+    owner: usize,
+    line: u32,
+    is_wanted: bool,
+}
+
+// The locks that are held.
+fn holdings_of(
+    alloc: Global,
+    order: &[Step],
+    standing: &Standing,
+) -> Result<Vec<Holding>, AllocError> {
+    let owners = standing.owners.as_slice();
+    let lines = taking_lines(alloc, order, owners.len())?;
+    let wanted = wanted_locks(alloc, standing, owners.len())?;
+    let mut holdings = Vec::new(alloc);
+    let mut lock: u32 = 0;
+    for (owner, (line, is_wanted)) in owners.iter().zip(lines.iter().zip(&wanted)) {
+        if let Some(owner) = owner {
+            holdings.push(Holding {
+                lock: LockNo(lock),
+                owner: *owner,
+                line: *line,
+                is_wanted: *is_wanted,
+            })?;
+        }
+        lock = lock.saturating_add(1);
+    }
+    Ok(holdings)
+}
+
+// Appends who holds which locks, and where they were taken; where many are held, the first of those that somebody waits for.
 fn push_holders(
     alloc: Global,
     text: &mut Vec<u8>,
@@ -36,35 +87,28 @@ fn push_holders(
     order: &[Step],
     standing: &Standing,
 ) -> Result<(), AllocError> {
-    let owners = standing.owners.as_slice();
-    let lines = taking_lines(alloc, order, owners.len())?;
+    let holdings = holdings_of(alloc, order, standing)?;
+    let are_few = holdings.len() <= MOST_TOLD;
     let mut told: usize = 0;
-    let mut lock: u32 = 0;
-    for (owner, line) in owners.iter().zip(&lines) {
-        if let Some(thread) = owner {
-            if told < MOST_TOLD {
-                push_labelled(text, b"thread ", *thread)?;
-                text.extend_from_slice(b" holds ")?;
-                push_lock(text, heads, LockNo(lock))?;
-                push_between(text, b", taken in line ", *line, b"\n")?;
-            }
+    for holding in &holdings {
+        if (are_few || holding.is_wanted) && told < MOST_TOLD {
+            push_labelled(text, b"thread ", holding.owner)?;
+            text.extend_from_slice(b" holds ")?;
+            push_lock(text, heads, holding.lock)?;
+            push_between(text, b", taken in line ", holding.line, b"\n")?;
             told = told.saturating_add(1);
         }
-        lock = lock.saturating_add(1);
     }
-    Ok(())
-}
-
-// Appends the control variables of a thread, where it has any.
-fn push_names_of(
-    text: &mut Vec<u8>,
-    thread: ThreadNo,
-    standing: &Standing,
-) -> Result<(), AllocError> {
-    match standing.names.get(thread.0 as usize) {
-        Some(names) => push_names(text, thread, names.as_slice()),
-        None => Ok(()),
+    let left = holdings.len().saturating_sub(told) as u64;
+    if left == 0 {
+        return Ok(());
     }
+    push_many(text, left, b" more lock")?;
+    text.extend_from_slice(if left == 1 {
+        b" is held\n"
+    } else {
+        b" are held\n"
+    })
 }
 
 // Whether a thread waits for something.
@@ -75,17 +119,19 @@ fn waits(next: &Option<Next>) -> bool {
     }
 }
 
-// Appends the control variables of the threads that have not ended, or of the first of them.
+// Appends the control variables of the threads that have not ended and have some, or of the first of them.
 fn push_waiting(text: &mut Vec<u8>, standing: &Standing) -> Result<(), AllocError> {
     let mut told: usize = 0;
     let mut left: u64 = 0;
     let mut thread: u32 = 0;
-    for next in standing.nexts.as_slice() {
-        if waits(next) && told < MOST_TOLD {
-            push_names_of(text, ThreadNo(thread), standing)?;
-            told = told.saturating_add(1);
-        } else if waits(next) {
-            left = left.saturating_add(1);
+    for (next, names) in standing.nexts.iter().zip(&standing.names) {
+        if waits(next) && !names.is_empty() {
+            if told < MOST_VARIABLES {
+                push_names(text, ThreadNo(thread), names.as_slice())?;
+                told = told.saturating_add(1);
+            } else {
+                left = left.saturating_add(1);
+            }
         }
         thread = thread.saturating_add(1);
     }
@@ -103,7 +149,11 @@ fn next_of(standing: &Standing, thread: ThreadNo) -> Option<&Next> {
 }
 
 // Appends which thread is joined that is not there.
-fn push_join(text: &mut Vec<u8>, thread: ThreadNo, standing: &Standing) -> Result<(), AllocError> {
+fn push_joined(
+    text: &mut Vec<u8>,
+    thread: ThreadNo,
+    standing: &Standing,
+) -> Result<(), AllocError> {
     let Some(next) = next_of(standing, thread) else {
         return Ok(());
     };
@@ -119,33 +169,87 @@ fn push_join(text: &mut Vec<u8>, thread: ThreadNo, standing: &Standing) -> Resul
     push_between(text, b"", threads.saturating_sub(1), b"\n")
 }
 
+// Appends which loop lets the number of a thread come so far that is joined in a line, and the variables of the thread that
+// joins it.
+fn push_join_bound(
+    alloc: Global,
+    text: &mut Vec<u8>,
+    halted: Halted<'_>,
+    thread: ThreadNo,
+    line: u32,
+) -> Result<(), AllocError> {
+    let Some(task) = halted.tasks.task_of(halted.program(), thread) else {
+        return Ok(());
+    };
+    let env = env_of(alloc, halted.request, halted.standing, thread)?;
+    let mut names = Vec::new(alloc);
+    for stmt in &statements_of(alloc, task)? {
+        if let What::Join(e, _) = &stmt.what {
+            if stmt.line == line {
+                put_controls(&mut names, e)?;
+            }
+        }
+    }
+    push_bound(alloc, text, task, line, &names, &env)?;
+    push_names(text, thread, env.names.as_slice())
+}
+
+// Appends where a thread forks one thread too many, in which loops, and which threads led to it.
+fn push_too_many(
+    alloc: Global,
+    text: &mut Vec<u8>,
+    halted: Halted<'_>,
+    thread: ThreadNo,
+    line: u32,
+) -> Result<(), AllocError> {
+    let threads = halted.standing.nexts.len();
+    push_between(
+        text,
+        b"",
+        threads,
+        b" threads are there, the most there may be\n",
+    )?;
+    push_forks(alloc, text, halted.order)?;
+    push_chain(alloc, text, halted.order, thread)?;
+    let loops = halted.loops_of(alloc, thread, Place::Subthread(line))?;
+    if !loops.is_empty() {
+        push_labelled(text, b"thread ", thread.0)?;
+        push_labelled(text, b" forks in line ", line)?;
+        push_loops(text, &loops)?;
+        text.extend_from_slice(b"\n")?;
+    }
+    let turned = halted.turned(alloc, thread, &loops)?;
+    halted.push_values_of(alloc, text, thread, &turned)
+}
+
 /// Appends what is told of a run of a program with this text that is stuck at a thread and line, after its front. The error
 /// is that memory is out.
 pub fn push_stuck_details(
     alloc: Global,
     text: &mut Vec<u8>,
-    request: &Request,
+    halted: Halted<'_>,
     source: &[u8],
-    order: &[Step],
     stuck: (Why, ThreadNo, u32),
-    standing: &Standing,
 ) -> Result<(), AllocError> {
     let (why, thread, line) = stuck;
+    let standing = halted.standing;
     match why {
         Why::Deadlock => {
-            let heads = request.checked.program().heads.as_slice();
-            push_ended(alloc, text, order, standing)?;
-            push_holders(alloc, text, heads, order, standing)?;
+            let heads = halted.program().heads.as_slice();
+            push_alike(alloc, text, heads, standing)?;
+            push_ended(alloc, text, halted.order, standing)?;
+            push_gathered(alloc, text, heads, halted.order, standing)?;
+            push_own_join(text, standing)?;
+            push_kept(text, heads, standing)?;
+            push_holders(alloc, text, heads, halted.order, standing)?;
             push_circle(alloc, text, heads, standing)?;
             push_waiting(text, standing)
         }
-        Why::Index => push_index(alloc, text, request, source, thread, line, standing),
-        Why::Join => push_join(text, thread, standing),
-        Why::Threads => push_between(
-            text,
-            b"",
-            standing.nexts.len(),
-            b" threads are there, the most there may be\n",
-        ),
+        Why::Index => push_index(alloc, text, halted.request, source, thread, line, standing),
+        Why::Join => {
+            push_joined(text, thread, standing)?;
+            push_join_bound(alloc, text, halted, thread, line)
+        }
+        Why::Threads => push_too_many(alloc, text, halted, thread, line),
     }
 }

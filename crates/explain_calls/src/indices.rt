@@ -1,12 +1,11 @@
 // Which cell is not there, where a run is stuck at an index.
 
-use crate::counts::push_many;
 use crate::handles::push_handle;
 use crate::sources::push_source;
-use crate::threads::push_names;
 use call_cases::{Request, copied_feeds};
 use gp_base::{Feed, Name, Seq, ThreadNo};
 use one_thread::Standing;
+use run_hints::{push_bound, push_many, push_names, put_controls, value_of};
 use run_views::{push_between, push_labelled};
 use std::alloc::{AllocError, Global};
 use task_ast::{Atom, Env, Expr, Head, Program, Stmt, What, eval_d};
@@ -29,19 +28,9 @@ enum Missing<'a> {
     },
     Fed {
         feed: &'a Name,
-        row: i64,
-        field: i64,
+        row: &'a Expr,
+        field: &'a Expr,
     },
-}
-
-/// The value of a control variable, or 0.
-pub fn value_of(names: &[(Name, i64)], name: &Name) -> i64 {
-    for pair in names {
-        if pair.0.as_slice() == name.as_slice() {
-            return pair.1;
-        }
-    }
-    0
 }
 
 // How many cells a lock array or a record of this name has.
@@ -91,11 +80,7 @@ fn find_in<'a>(here: &Here, e: &'a Expr) -> Option<Missing<'a>> {
             if eval_d(e, here.env).is_some() {
                 return None;
             }
-            Some(Missing::Fed {
-                feed,
-                row: eval_d(row, here.env).unwrap_or(0),
-                field: eval_d(field, here.env).unwrap_or(0),
-            })
+            Some(Missing::Fed { feed, row, field })
         }
         Expr::Neg(a) => find_in(here, a),
         Expr::Not(a) => find_in(here, a),
@@ -231,12 +216,13 @@ fn push_no_cell(
     text: &mut Vec<u8>,
     here: &Here,
     feed: &Name,
-    row: i64,
-    field: i64,
+    row: &Expr,
+    field: &Expr,
 ) -> Result<(), AllocError> {
+    let (row, field) = (eval_d(row, here.env), eval_d(field, here.env));
     text.extend_from_slice(feed.as_slice())?;
-    push_labelled(text, b"[", row)?;
-    push_between(text, b", ", field, b"]; ")?;
+    push_labelled(text, b"[", row.unwrap_or(0))?;
+    push_between(text, b", ", field.unwrap_or(0), b"]; ")?;
     text.extend_from_slice(feed.as_slice())?;
     for pair in here.env.feeds.as_slice() {
         if pair.0.as_slice() == feed.as_slice() {
@@ -244,6 +230,23 @@ fn push_no_cell(
         }
     }
     text.extend_from_slice(b"\n")
+}
+
+// The control variables that the index of a cell names.
+fn controls_of<'a>(alloc: Global, missing: Missing<'a>) -> Result<Vec<&'a Name>, AllocError> {
+    let mut names = Vec::new(alloc);
+    match missing {
+        Missing::Cell {
+            index: Atom::Var(name),
+            ..
+        } => names.push(name)?,
+        Missing::Cell { .. } => {}
+        Missing::Fed { row, field, .. } => {
+            put_controls(&mut names, row)?;
+            put_controls(&mut names, field)?;
+        }
+    }
+    Ok(names)
 }
 
 // Appends a cell that is not there, the line of the program that names it, and where its index comes from, if that is a
@@ -309,6 +312,22 @@ fn names_again(
     Ok(names)
 }
 
+/// What a thread reads its expressions under. The error is that memory is out.
+pub fn env_of(
+    alloc: Global,
+    request: &Request,
+    standing: &Standing,
+    thread: ThreadNo,
+) -> Result<Env, AllocError> {
+    let heads = request.checked.program().heads.as_slice();
+    Ok(Env {
+        names: names_again(alloc, standing, thread)?,
+        regs: Seq::new(alloc),
+        me: thread,
+        feeds: named_feeds(alloc, request, heads)?,
+    })
+}
+
 /// Appends which cell is not there that a thread names in a line of this program, that line, and the control variables of
 /// the thread. The error is that memory is out.
 pub fn push_index(
@@ -322,17 +341,14 @@ pub fn push_index(
 ) -> Result<(), AllocError> {
     let program: &Program = request.checked.program();
     let heads = program.heads.as_slice();
-    let env = Env {
-        names: names_again(alloc, standing, thread)?,
-        regs: Seq::new(alloc),
-        me: thread,
-        feeds: named_feeds(alloc, request, heads)?,
-    };
+    let env = env_of(alloc, request, standing, thread)?;
     let here = Here { heads, env: &env };
     for task in program.tasks.as_slice() {
         let body = task.body.as_slice();
         if let Some(missing) = find_in_line(&here, body, line) {
             push_missing(alloc, text, &here, source, body, line, missing)?;
+            let names = controls_of(alloc, missing)?;
+            push_bound(alloc, text, task, line, &names, &env)?;
             break;
         }
     }

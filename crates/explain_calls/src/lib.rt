@@ -2,20 +2,17 @@
 //! that are handed in.
 #![tactic(auto)]
 
-mod circles;
 mod counts;
 mod details;
-mod ended;
 mod first_cells;
+mod halted;
 mod handles;
 mod indices;
-mod loops;
 mod reading;
 mod refused;
 mod running;
 mod sources;
 mod spent;
-mod threads;
 mod top;
 mod unread;
 mod usage;

@@ -15,15 +15,16 @@ ghost use Rattle.explain_calls.specs.meaning.Fronts.{ending_line, front, IsText}
 use crate::counts::push_counts;
 use crate::details::push_stuck_details;
 use crate::first_cells::push_first_cells;
+use crate::halted::Halted;
 use crate::spent::push_spent_details;
-use crate::threads::Tasks;
 use call_cases::Request;
 use gp_base::{End, Seq, Text, Why};
 use one_thread::{PlainRun, Standing, run_reckoned, stand_before};
 use run_counts::Counting;
+use run_hints::{Tasks, push_crossing, push_results, push_unset};
 use run_views::{push_between, push_labelled, push_standing, why_word};
 use std::alloc::{AllocError, Global};
-use task_ast::Head;
+use task_ast::{Head, Program};
 
 /// What is told of a run, and how it ends.
 #[derive(Drop)]
@@ -68,7 +69,8 @@ fn push_stuck(
     }
 }
 
-// Where the threads stand after the last of so many subthreads.
+// Where the threads stand after the last of so many subthreads. A run of so many has such a place, so that the error is that
+// memory is out.
 fn last_standing(alloc: Global, request: &Request, position: usize) -> Result<Standing, AllocError>
     requires { let work = work_of request.now in position ≡ length (order work.program work.inputs work.limits) }
     ensures { let work = work_of request.now in let here = before work.program work.inputs work.limits position in IfOk result (Stands here.table here.points) }
@@ -79,7 +81,7 @@ fn last_standing(alloc: Global, request: &Request, position: usize) -> Result<St
     };
     match stand_before(alloc, &request.checked, &request.inputs, limits, position)? {
         Some(standing) => Ok(standing),
-        None => unreachable!(),
+        None => Err(AllocError),
     }
 }
 
@@ -89,6 +91,7 @@ fn front_of(
     request: &Request,
     source: &[u8],
     run: &PlainRun,
+    tasks: &Tasks,
     rest: &mut Vec<u8>,
 ) -> Result<Vec<u8>, AllocError>
     requires { let work = work_of request.now in IsPlainRun work.program work.inputs work.limits run.now }
@@ -103,17 +106,33 @@ fn front_of(
         End::Stuck { why, thread, line } => {
             let standing = last_standing(alloc, request, run.order.len())?;
             push_stuck(alloc, &mut text, heads, run.end, &standing)?;
-            push_stuck_details(
-                alloc,
-                rest,
+            let halted = Halted {
                 request,
-                source,
-                run.order.as_slice(),
-                (why, thread, line),
-                &standing,
-            )?;
+                order: run.order.as_slice(),
+                tasks,
+                standing: &standing,
+            };
+            push_stuck_details(alloc, rest, halted, source, (why, thread, line))?;
             Ok(text)
         }
+    }
+}
+
+// Appends what in a run is likely not what was meant, though nothing stops at it.
+fn push_hints(
+    alloc: Global,
+    text: &mut Vec<u8>,
+    program: &Program,
+    run: &PlainRun,
+    tasks: &Tasks,
+) -> Result<(), AllocError> {
+    push_unset(alloc, text, program, tasks)?;
+    match run.end {
+        End::Finished => {
+            push_results(alloc, text, program, run.order.as_slice(), tasks)?;
+            push_crossing(alloc, text, program, run.order.as_slice())
+        }
+        End::Stuck { .. } | End::Spent(_) => Ok(()),
     }
 }
 
@@ -136,9 +155,10 @@ pub fn tell_of(alloc: Global, request: &Request, source: &[u8]) -> Result<Told, 
     let program = request.checked.program();
     let tasks = Tasks::new(alloc, program, run.order.as_slice())?;
     let mut rest = Vec::new(alloc);
-    let mut text = front_of(alloc, request, source, &run, &mut rest)?;
+    let mut text = front_of(alloc, request, source, &run, &tasks, &mut rest)?;
     push_spent_details(alloc, &mut rest, request, &run, &counting, &tasks)?;
     push_counts(alloc, &mut rest, program, &run, &counting, &tasks)?;
+    push_hints(alloc, &mut rest, program, &run, &tasks)?;
     push_first_cells(&mut rest, request)?;
     text.extend_from_slice(&rest)?;
     Ok(Told {

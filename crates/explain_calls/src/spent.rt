@@ -1,77 +1,17 @@
 // What is told of a run that has spent its limits, after its front.
 
-use crate::counts::push_many;
-use crate::loops::{Place, loops_at, push_conditions, push_loops, push_outer};
-use crate::threads::{Tasks, push_names};
+use crate::halted::Halted;
 use call_cases::Request;
 use gp_base::limits::{MOST_SUBTHREADS, MOST_TURNS};
 use gp_base::{End, Limits, ThreadNo};
-use one_thread::{PlainRun, Standing, Step, run_plain, run_reckoned, stand_before};
-use run_counts::{Counting, Loop, Turned, Turns};
+use one_thread::{PlainRun, Step, run_plain, stand_before};
+use run_counts::{Counting, Loop, Turned};
+use run_hints::{Place, Tasks, busiest, push_loops, push_many, push_outer};
 use run_views::{push_between, push_labelled};
 use std::alloc::{AllocError, Global};
-use task_ast::{Program, SyncOp};
+use task_ast::SyncOp;
 
-// A run that has spent its limits: its subthreads, the tasks of its threads, and where these stand.
-#[derive(Clone, Copy)]
-struct Spent<'a> {
-    request: &'a Request,
-    order: &'a [Step],
-    tasks: &'a Tasks,
-    standing: &'a Standing,
-}
-
-impl<'a> Spent<'a> {
-    fn program(&self) -> &'a Program {
-        self.request.checked.program()
-    }
-
-    // The loops around a place of a thread.
-    fn loops_of(
-        &self,
-        alloc: Global,
-        thread: ThreadNo,
-        place: Place,
-    ) -> Result<Vec<Loop<'a>>, AllocError> {
-        match self.tasks.task_of(self.program(), thread) {
-            Some(task) => loops_at(alloc, task, place),
-            None => Ok(Vec::new(alloc)),
-        }
-    }
-
-    // The turns of these loops of a thread since it entered each of them. The run is made once more for them.
-    fn turned(
-        &self,
-        alloc: Global,
-        thread: ThreadNo,
-        loops: &[Loop<'a>],
-    ) -> Result<Vec<Turned<'a>>, AllocError> {
-        let mut turns = Turns::new(alloc, self.order, thread, loops)?;
-        if !loops.is_empty() {
-            let limits = self.request.asked.limits;
-            let (checked, inputs) = (&self.request.checked, &self.request.inputs);
-            run_reckoned(alloc, checked, inputs, limits, &mut turns)?;
-        }
-        Ok(turns.loops)
-    }
-
-    // Appends the control variables of a thread, and which of them the conditions of these loops name.
-    fn push_values_of(
-        &self,
-        alloc: Global,
-        text: &mut Vec<u8>,
-        thread: ThreadNo,
-        loops: &[Turned<'a>],
-    ) -> Result<(), AllocError> {
-        match self.standing.names.get(thread.0 as usize) {
-            Some(names) => {
-                push_names(text, thread, names.as_slice())?;
-                push_conditions(alloc, text, loops, names.as_slice())
-            }
-            None => Ok(()),
-        }
-    }
-
+impl<'a> Halted<'a> {
     // Appends that a subthread took all loop turns that it may, the last in the loop in a line.
     fn push_turns(
         &self,
@@ -136,7 +76,41 @@ impl<'a> Spent<'a> {
         self.push_place(text, step, &loops)?;
         text.extend_from_slice(b"\n")?;
         let turned = self.turned(alloc, step.thread, &loops)?;
-        self.push_values_of(alloc, text, step.thread, &turned)
+        self.push_values_of(alloc, text, step.thread, &turned)?;
+        self.push_busiest(alloc, text, step.thread)
+    }
+
+    // The line in which a thread began its last subthread.
+    fn last_line(&self, thread: ThreadNo) -> u32 {
+        for step in self.order.iter().rev() {
+            if step.thread.0 == thread.0 {
+                return step.begins.line;
+            }
+        }
+        0
+    }
+
+    // Appends which thread began more than half of the subthreads, in which loops, if it is another one.
+    fn push_busiest(
+        &self,
+        alloc: Global,
+        text: &mut Vec<u8>,
+        other: ThreadNo,
+    ) -> Result<(), AllocError> {
+        let (thread, count) = busiest(alloc, self.order)?;
+        let line = self.last_line(thread);
+        let loops = self.loops_of(alloc, thread, Place::Subthread(line))?;
+        let is_most = count as usize > self.order.len() / 2;
+        if thread.0 == other.0 || !is_most || loops.is_empty() {
+            return Ok(());
+        }
+        push_labelled(text, b"thread ", thread.0)?;
+        push_labelled(text, b" began the most, ", count)?;
+        push_labelled(text, b", the last in line ", line)?;
+        push_loops(text, &loops)?;
+        text.extend_from_slice(b"\n")?;
+        let turned = self.turned(alloc, thread, &loops)?;
+        self.push_values_of(alloc, text, thread, &turned)
     }
 
     // Appends which thread would begin a subthread more than there may be.
@@ -230,7 +204,7 @@ pub fn push_spent_details(
     else {
         return Ok(());
     };
-    let spent = Spent {
+    let spent = Halted {
         request,
         order: run.order.as_slice(),
         tasks,

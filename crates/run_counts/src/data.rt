@@ -38,7 +38,7 @@ pub fn reckon_data(
             let first = reckon_data(first, names, env, registers, exact)?;
             chain_data(links.as_slice(), first, names, env, registers, exact)
         }
-        Expr::Num(_) => eval_d(e, env),
+        Expr::Num(value) => Some(*value),
         Expr::Ctl(_) => eval_d(e, env),
         Expr::Me => eval_d(e, env),
         Expr::Rows(_) => eval_d(e, env),

@@ -3,13 +3,14 @@
 use gp_base::{Name, ThreadNo};
 use one_thread::{Plainly, Reckon, Step};
 use std::alloc::{AllocError, Global};
-use task_ast::{Env, Expr, Op, eval_d};
+use task_ast::{Env, Expr, Op, Stmt, eval_d};
 
 /// A loop.
 #[derive(Clone, Copy)]
 pub struct Loop<'a> {
     pub line: u32,
     pub condition: &'a Expr,
+    pub body: &'a [Stmt],
 }
 
 /// A loop, and how many turns it has begun since it was entered.

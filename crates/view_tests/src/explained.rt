@@ -18,6 +18,8 @@ thread 0 holds l[0], taken in line 4
 thread 0: i = 0, j = 0
 2 subthreads, 1 thread, 1 lock taken; at most 1 subthread side by side
 arithmetic: exact in every line that ran
+hint: line 4 reads i, which nothing sets: it is 0
+hint: line 5 reads j, which nothing sets: it is 0
 ";
 
 // The lock that thread 1 holds was taken before, in another line.
@@ -148,6 +150,7 @@ const BARRIER_TOLD: &str = "stuck deadlock thread 0 line 5
 thread 0 line 5 waits for barrier step
 thread 1 line 2 waits for barrier step
 barrier step: 2 of 3 threads are there: 0 1
+hint: barrier step is of 3 threads, and the run has 2
 3 subthreads, 2 threads, 0 locks taken; at most 1 subthread side by side
 arithmetic: exact in every line that ran
 ";
@@ -206,6 +209,7 @@ const ITSELF: &str = "task main() { join 0; }";
 
 const ITSELF_TOLD: &str = "stuck deadlock thread 0 line 1
 thread 0 line 1 waits for thread 0 to end
+hint: thread 0 joins itself: 0 is main, and the forks make threads 1, 2 and so on
 1 subthread, 1 thread, 0 locks taken; at most 1 subthread side by side
 arithmetic: exact in every line that ran
 ";
@@ -221,6 +225,7 @@ task main() {
 const LONE_TOLD: &str = "stuck deadlock thread 0 line 5
 thread 0 line 5 waits for barrier b
 barrier b: 1 of 2 threads is there: 0
+hint: barrier b is of 2 threads, and the run has 1
 2 subthreads, 1 thread, 0 locks taken; at most 1 subthread side by side
 arithmetic: exact in every line that ran
 ";
@@ -327,6 +332,7 @@ const PAST_TOLD: &str = "stuck index thread 0 line 5
 moves[2, 1]; moves has 2 rows, 0 to 1, of 2 fields, 0 to 1
     print moves[i, 1];
           ^
+hint: the loop in line 4 goes on while i < 5, and i came to 2
 thread 0: i = 2
 1 subthread, 1 thread, 0 locks taken; at most 1 subthread side by side
 arithmetic: exact in every line that ran
@@ -548,10 +554,12 @@ const ROUNDS_TOLD: &str = "spent 2
 thread 0: i = 0, k = 1, n = 0
 hint: the condition of one of these loops may stay true, of the first most likely:
 loop in line 7, 2 turns since it was entered: k = 1, n = 0, i = 0
-loop in line 5, 1 turn since it was entered: i = 0
+loop in line 5, 1 turn since it was entered: i = 0; nothing in the loop sets it
 hint: --subthreads allows up to 200000, for a batch that ends
 2 subthreads, 1 thread, 1 lock taken; at most 1 subthread side by side
 arithmetic: exact in every line that ran
+hint: line 5 reads i, which nothing sets: it is 0
+hint: line 7 reads n, which nothing sets: it is 0
 ";
 
 const BEGINS: &str = "task t(n) { print n; }

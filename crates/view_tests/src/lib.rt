@@ -6,6 +6,8 @@ mod calls;
 #[cfg(test)]
 mod explained;
 #[cfg(test)]
+mod meant;
+#[cfg(test)]
 mod refused;
 #[cfg(test)]
 mod views;

@@ -38,6 +38,21 @@ impl Tasks {
         let number = *self.numbers.get(thread.0 as usize)?;
         program.tasks.get(number as usize)
     }
+
+    /// The number of the task of a thread.
+    pub fn number_of(&self, thread: ThreadNo) -> Option<u32> {
+        self.numbers.get(thread.0 as usize).copied()
+    }
+
+    /// How many threads there are.
+    pub fn count(&self) -> usize {
+        self.numbers.len()
+    }
+
+    /// Whether a thread runs the task of this number.
+    pub fn are_run(&self, task: u32) -> bool {
+        self.numbers.contains(&task)
+    }
 }
 
 // The number of the task `main`.

@@ -1,19 +1,21 @@
 // The loops around a place, and what their conditions name.
 
-use crate::counts::push_many;
-use crate::indices::value_of;
+use crate::statements::{put_controls, statements_in, value_of};
 use crate::threads::push_variable;
+use crate::unset::control;
+use crate::words::push_many;
 use gp_base::Name;
 use run_counts::{Loop, Turned};
 use run_views::{push_labelled, push_number};
 use std::alloc::{AllocError, Global};
-use task_ast::{Expr, Stmt, TaskText, What};
+use task_ast::{Stmt, TaskText, What};
 
-/// A place in a line: a loop, or a statement that begins a subthread.
+/// A place in a line: a loop, a statement that begins a subthread, or any statement.
 #[derive(Clone, Copy)]
 pub enum Place {
     Loop(u32),
     Subthread(u32),
+    Statement(u32),
 }
 
 // Whether a statement begins a subthread.
@@ -34,6 +36,7 @@ fn is_at(stmt: &Stmt, place: Place) -> bool {
     match place {
         Place::Loop(line) => stmt.line == line && matches!(stmt.what, What::While(_, _)),
         Place::Subthread(line) => stmt.line == line && begins_one(&stmt.what),
+        Place::Statement(line) => stmt.line == line,
     }
 }
 
@@ -49,6 +52,7 @@ fn push_around<'a>(
                 loops.push(Loop {
                     line: stmt.line,
                     condition,
+                    body: body.as_slice(),
                 })?;
                 let found = is_at(stmt, place) || push_around(loops, body.as_slice(), place)?;
                 if !found {
@@ -108,39 +112,15 @@ pub fn push_loops(text: &mut Vec<u8>, loops: &[Loop<'_>]) -> Result<(), AllocErr
     push_outer(text, loops)
 }
 
-fn is_among(names: &[&Name], name: &Name) -> bool {
-    for other in names {
-        if other.as_slice() == name.as_slice() {
-            return true;
+// Whether a statement of a block sets one of these control variables.
+fn some_are_set(alloc: Global, names: &[&Name], block: &[Stmt]) -> Result<bool, AllocError> {
+    let statements = statements_in(alloc, block)?;
+    for name in names {
+        if control(name).setting_line(&statements).is_some() {
+            return Ok(true);
         }
     }
-    false
-}
-
-// Puts the control variables that an expression names after others, each once.
-fn put_names<'a>(names: &mut Vec<&'a Name>, e: &'a Expr) -> Result<(), AllocError> {
-    match e {
-        Expr::Ctl(name) => {
-            if !is_among(names, name) {
-                names.push(name)?;
-            }
-            Ok(())
-        }
-        Expr::Cell(_, row, field) => {
-            put_names(names, row)?;
-            put_names(names, field)
-        }
-        Expr::Neg(a) => put_names(names, a),
-        Expr::Not(a) => put_names(names, a),
-        Expr::Chain(first, links) => {
-            put_names(names, first)?;
-            for link in links.as_slice() {
-                put_names(names, &link.1)?;
-            }
-            Ok(())
-        }
-        _ => Ok(()),
-    }
+    Ok(false)
 }
 
 // Appends how many turns a loop took since it was entered, and the control variables that its condition names, with their
@@ -152,7 +132,7 @@ fn push_condition(
     values: &[(Name, i64)],
 ) -> Result<(), AllocError> {
     let mut names = Vec::new(alloc);
-    put_names(&mut names, turned.around.condition)?;
+    put_controls(&mut names, turned.around.condition)?;
     push_labelled(text, b"loop in line ", turned.around.line)?;
     text.extend_from_slice(b", ")?;
     push_many(text, turned.turns, b" turn")?;
@@ -165,7 +145,14 @@ fn push_condition(
         push_variable(text, between, name, value_of(values, name))?;
         between = b", ";
     }
-    text.extend_from_slice(b"\n")
+    if some_are_set(alloc, &names, turned.around.body)? {
+        return text.extend_from_slice(b"\n");
+    }
+    text.extend_from_slice(if names.len() == 1 {
+        b"; nothing in the loop sets it\n"
+    } else {
+        b"; nothing in the loop sets any of them\n"
+    })
 }
 
 // Puts a loop among others by its turns, after those with more of them, and after those around it with as many.

@@ -1,0 +1,73 @@
+// A run that has halted before its end, and the loops of its threads.
+
+use call_cases::Request;
+use gp_base::ThreadNo;
+use one_thread::{Standing, Step, run_reckoned};
+use run_counts::{Loop, Turned, Turns};
+use run_hints::{Place, Tasks, loops_at, push_conditions, push_names};
+use std::alloc::{AllocError, Global};
+use task_ast::Program;
+
+/// A run that has halted before its end: its subthreads, the tasks of its threads, and where these stand.
+#[derive(Clone, Copy)]
+pub struct Halted<'a> {
+    pub request: &'a Request,
+    pub order: &'a [Step],
+    pub tasks: &'a Tasks,
+    pub standing: &'a Standing,
+}
+
+impl<'a> Halted<'a> {
+    /// The program.
+    pub fn program(&self) -> &'a Program {
+        self.request.checked.program()
+    }
+
+    /// The loops around a place of a thread. The error is that memory is out.
+    pub fn loops_of(
+        &self,
+        alloc: Global,
+        thread: ThreadNo,
+        place: Place,
+    ) -> Result<Vec<Loop<'a>>, AllocError> {
+        match self.tasks.task_of(self.program(), thread) {
+            Some(task) => loops_at(alloc, task, place),
+            None => Ok(Vec::new(alloc)),
+        }
+    }
+
+    /// The turns of these loops of a thread since it entered each of them. The run is made once more for them. The error is
+    /// that memory is out.
+    pub fn turned(
+        &self,
+        alloc: Global,
+        thread: ThreadNo,
+        loops: &[Loop<'a>],
+    ) -> Result<Vec<Turned<'a>>, AllocError> {
+        let mut turns = Turns::new(alloc, self.order, thread, loops)?;
+        if !loops.is_empty() {
+            let limits = self.request.asked.limits;
+            let (checked, inputs) = (&self.request.checked, &self.request.inputs);
+            run_reckoned(alloc, checked, inputs, limits, &mut turns)?;
+        }
+        Ok(turns.loops)
+    }
+
+    /// Appends the control variables of a thread, and which of them the conditions of these loops name. The error is that
+    /// memory is out.
+    pub fn push_values_of(
+        &self,
+        alloc: Global,
+        text: &mut Vec<u8>,
+        thread: ThreadNo,
+        loops: &[Turned<'a>],
+    ) -> Result<(), AllocError> {
+        match self.standing.names.get(thread.0 as usize) {
+            Some(names) => {
+                push_names(text, thread, names.as_slice())?;
+                push_conditions(alloc, text, loops, names.as_slice())
+            }
+            None => Ok(()),
+        }
+    }
+}
