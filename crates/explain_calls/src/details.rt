@@ -194,7 +194,8 @@ fn push_join_bound(
     push_names(text, thread, env.names.as_slice())
 }
 
-// Appends where a thread forks one thread too many, in which loops, and which threads led to it.
+// Appends where a thread forks one thread too many, in which loops, and which threads led to it. Where many did, one by
+// another, it is not a loop that goes on.
 fn push_too_many(
     alloc: Global,
     text: &mut Vec<u8>,
@@ -210,7 +211,7 @@ fn push_too_many(
         b" threads are there, the most there may be\n",
     )?;
     push_forks(alloc, text, halted.order)?;
-    push_chain(alloc, text, halted.order, thread)?;
+    let is_deep = push_chain(alloc, text, halted.order, thread)?;
     let loops = halted.loops_of(alloc, thread, Place::Subthread(line))?;
     if !loops.is_empty() {
         push_labelled(text, b"thread ", thread.0)?;
@@ -218,7 +219,11 @@ fn push_too_many(
         push_loops(text, &loops)?;
         text.extend_from_slice(b"\n")?;
     }
-    let turned = halted.turned(alloc, thread, &loops)?;
+    let turned = if is_deep {
+        Vec::new(alloc)
+    } else {
+        halted.turned(alloc, thread, &loops)?
+    };
     halted.push_values_of(alloc, text, thread, &turned)
 }
 

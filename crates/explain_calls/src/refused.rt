@@ -10,7 +10,8 @@ use gp_base::limits::MOST_FILE_BYTES;
 use gp_base::{Name, Seq, Shelf, Text};
 use lock_checker::{CheckFault, check};
 use refusal_texts::{
-    push_check_refusal, push_file_refusal, push_lex_refusal, push_long_file, push_parse_refusal,
+    push_check_refusal, push_feed_head, push_file_refusal, push_lex_refusal, push_long_file,
+    push_parse_refusal,
 };
 use std::alloc::{AllocError, Global};
 use task_ast::{CheckKind, Program};
@@ -155,7 +156,10 @@ fn push_input(
         Some(program) => {
             let heads = program.heads.as_slice();
             match use_of(alloc, heads, name.as_slice(), bytes.as_slice(), parts) {
-                Some(used) => push_file_refusal(alloc, told, name, bytes, used, kind, row),
+                Some(used) => {
+                    push_file_refusal(alloc, told, name, bytes, used, kind, row)?;
+                    push_feed_head(told, heads, name, used, kind)
+                }
                 None => Err(AllocError),
             }
         }

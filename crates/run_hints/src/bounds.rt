@@ -221,7 +221,7 @@ fn push_fed(text: &mut Vec<u8>, name: &Name, line: u32) -> Result<(), AllocError
         text,
         b" comes from a feed, in line ",
         line,
-        b": test such a number before it is an index\n",
+        b": test such a number before it is an index, or take 1 off where the file counts from 1\n",
     )
 }
 

@@ -67,14 +67,14 @@ fn parents_of(alloc: Global, order: &[Step]) -> Result<Vec<u32>, AllocError> {
     Ok(parents)
 }
 
-/// Appends through how many threads a thread was forked, one by another, if there are more than two of them. The error is
-/// that memory is out.
+/// Appends through how many threads a thread was forked, one by another, if there are more than two of them, and answers
+/// whether there are. The error is that memory is out.
 pub fn push_chain(
     alloc: Global,
     text: &mut Vec<u8>,
     order: &[Step],
     thread: ThreadNo,
-) -> Result<(), AllocError> {
+) -> Result<bool, AllocError> {
     let parents = parents_of(alloc, order)?;
     let mut number = thread.0;
     let mut length: u64 = 0;
@@ -85,7 +85,7 @@ pub fn push_chain(
         }
     }
     if length < 3 {
-        return Ok(());
+        return Ok(false);
     }
     let parent = at(&parents, thread.0 as usize);
     push_labelled(text, b"hint: thread ", thread.0)?;
@@ -96,5 +96,6 @@ pub fn push_chain(
         b", and so on, ",
         length,
         b" threads deep: a task that forks itself has to end somewhere\n",
-    )
+    )?;
+    Ok(true)
 }

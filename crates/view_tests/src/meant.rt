@@ -203,7 +203,7 @@ const FED_TOLD: &str = "stuck index thread 0 line 7
 bank[who] with who = 3; bank has 3 cells, 0 to 2
     lock bank[who];
          ^
-hint: who comes from a feed, in line 6: test such a number before it is an index
+hint: who comes from a feed, in line 6: test such a number before it is an index, or take 1 off where the file counts from 1
 thread 0: i = 1, who = 3
 3 subthreads, 1 thread, 1 lock taken; at most 1 subthread side by side
 arithmetic: exact in every line that ran
@@ -325,6 +325,24 @@ hint: thread 4095 was forked by thread 4094, that by thread 4093, and so on, 409
 arithmetic: exact in every line that ran
 ";
 
+// Each thread waits in its loop for the one that it forked.
+const DEEP: &str = "task t() {
+  var h;
+  while 1 { fork t() into h; join h; }
+}
+task main() { fork t(); }
+";
+
+const DEEP_TOLD: &str = "stuck threads thread 4095 line 3
+4096 threads are there, the most there may be
+hint: line 3 forked 4094 threads
+hint: thread 4095 was forked by thread 4094, that by thread 4093, and so on, 4095 threads deep: a task that forks itself has to end somewhere
+thread 4095 forks in line 3, in the loop in line 3
+thread 4095: h = 0
+8191 subthreads, 4096 threads, 0 locks taken; at most 1 subthread side by side
+arithmetic: exact in every line that ran
+";
+
 // The thread that would begin one more is not the one that goes round, which began its start, three locks and three unlocks,
 // and went on from the barrier.
 const BUSY: &str = "lock l[1];
@@ -355,11 +373,12 @@ hint: --subthreads allows up to 200000, for a batch that ends
 arithmetic: exact in every line that ran
 ";
 
-const HALTS: [Row; 5] = [
+const HALTS: [Row; 6] = [
     ("explain p.gp", GATHERED, "", 5, GATHERED_TOLD, ""),
     ("explain p.gp", ALIKE, "", 5, ALIKE_TOLD, ""),
     ("explain p.gp", FORKS, "", 5, FORKS_TOLD, ""),
     ("explain p.gp", CHAIN, "", 5, CHAIN_TOLD, ""),
+    ("explain p.gp", DEEP, "", 5, DEEP_TOLD, ""),
     ("explain p.gp --subthreads 10", BUSY, "", 6, BUSY_TOLD, ""),
 ];
 

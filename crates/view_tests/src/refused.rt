@@ -267,6 +267,7 @@ hint: a header has to go
 const SEMICOLON_TOLD: &str = "moves.csv:1: 1 field, and not 2 (kind 1 row 1)
 1;2
 hint: the line has 1 semicolon: fields stand between commas
+hint: line 1 of the program says: feed moves has 2 fields in each row
 ";
 
 const DELAY_TOLD: &str = "moves.csv:1: field 3: 65 is no delay, 0 to 64 (kind 3 row 1)
@@ -297,6 +298,7 @@ task main() { }
 
 const FEED_AFTER_TOLD: &str = "moves.csv:1: 2 fields, and not 3 (kind 1 row 1)
 1,7
+hint: line 3 of the program says: feed moves has 3 fields in each row
 ";
 
 const FAULTS_AFTER_TOLD: &str = "moves.csv:1: 2 fields, and not 4 (kind 1 row 1)
