@@ -325,10 +325,10 @@ hint: thread 4095 was forked by thread 4094, that by thread 4093, and so on, 409
 arithmetic: exact in every line that ran
 ";
 
-// Each thread waits in its loop for the one that it forked.
+// Each thread forks one in its loop.
 const DEEP: &str = "task t() {
-  var h;
-  while 1 { fork t() into h; join h; }
+  var i;
+  while i < 1 { fork t(); i = i + 1; }
 }
 task main() { fork t(); }
 ";
@@ -338,7 +338,7 @@ const DEEP_TOLD: &str = "stuck threads thread 4095 line 3
 hint: line 3 forked 4094 threads
 hint: thread 4095 was forked by thread 4094, that by thread 4093, and so on, 4095 threads deep: a task that forks itself has to end somewhere
 thread 4095 forks in line 3, in the loop in line 3
-thread 4095: h = 0
+thread 4095: i = 0
 8191 subthreads, 4096 threads, 0 locks taken; at most 1 subthread side by side
 arithmetic: exact in every line that ran
 ";
