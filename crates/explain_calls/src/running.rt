@@ -69,8 +69,7 @@ fn push_stuck(
     }
 }
 
-// Where the threads stand after the last of so many subthreads. A run of so many has such a place, so that the error is that
-// memory is out.
+// Where the threads stand after the last of so many subthreads.
 fn last_standing(alloc: Global, request: &Request, position: usize) -> Result<Standing, AllocError>
     requires { let work = work_of request.now in position ≡ length (order work.program work.inputs work.limits) }
     ensures { let work = work_of request.now in let here = before work.program work.inputs work.limits position in IfOk result (Stands here.table here.points) }
@@ -81,7 +80,7 @@ fn last_standing(alloc: Global, request: &Request, position: usize) -> Result<St
     };
     match stand_before(alloc, &request.checked, &request.inputs, limits, position)? {
         Some(standing) => Ok(standing),
-        None => Err(AllocError),
+        None => unreachable!(),
     }
 }
 
