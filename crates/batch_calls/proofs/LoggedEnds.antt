@@ -79,15 +79,6 @@ module _ (asked : Asked) (work : ToDo) (out err : Change) (status : ℕ) (journa
   run_ends (command.Ckpt every) none ends = ends
   run_ends command.Log none ends = absurd none
 
-  pub ends_by : (c : Command) → KeepsNoLog c → RunEnds (work_text c work) (trace_for asked journal) (work_status c work) out err status
-      → EndsBy c asked work out err status journal
-  ends_by command.Run none ends = ends
-  ends_by command.One none ends = ends
-  ends_by command.Check none ends = ends
-  ends_by (command.Soak batch) none ends = ends
-  ends_by (command.Ckpt every) none ends = ends
-  ends_by command.Log none ends = absurd none
-
   -- it keeps one
   pub log_ends : (c : Command) → c ≡ command.Log → EndsBy c asked work out err status journal
       → LogEnds (work_text c work) (log_for work) (TakesLog work journal) (work_status c work) out err journal status

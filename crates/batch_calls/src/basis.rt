@@ -1,7 +1,7 @@
 // How a command is carried out, and what a run over a journal is carried out from.
 ghost use Rattle.batch_calls.specs.inner.Ways.{IsWay};
 
-use crate::plan::Plan;
+use crate::plan::AskedRun;
 use command_line::{Command, Soak};
 use subthread::Work;
 
@@ -27,8 +27,8 @@ pub enum Way {
 /// written.
 #[derive(Drop)]
 pub struct Basis<'a> {
-    pub plan: &'a Plan,
-    pub code: &'a Work,
+    pub plan: &'a AskedRun,
+    pub work: &'a Work,
     pub output: Output,
 }
 

@@ -35,11 +35,11 @@ fn carry_inline<R: Threads + Sync, O: Sink, E: Sink, G: Gate>(
     err: &mut E,
     gate: &G,
 ) -> Outcome
-    requires planned { IsPlanned basis.now.plan.now basis.now.code.now begins }
+    requires planned { IsPlanned basis.now.plan.now basis.now.work.now begins }
     requires writes { Writes basis.now.plan.now.asked.command basis.now.output }
     ensures { Carries basis.now.plan.now.asked (work_planned basis.now.plan.now begins) (change_of O.written O.faults out.old out.new) (change_of E.written E.faults err.old err.new) result.status result.journal }
 {
-    let mut crew = InlineCrew::new(alloc, basis.code, gate);
+    let mut crew = InlineCrew::new(alloc, basis.work, gate);
     carry_by(rt, alloc, basis, begins, &mut crew, out, err)
 }
 
@@ -53,11 +53,11 @@ fn carry_waves<R: Threads + Sync, O: Sink, E: Sink, G: Gate>(
     err: &mut E,
     gate: &G,
 ) -> Outcome
-    requires planned { IsPlanned basis.now.plan.now basis.now.code.now begins }
+    requires planned { IsPlanned basis.now.plan.now basis.now.work.now begins }
     requires writes { Writes basis.now.plan.now.asked.command basis.now.output }
     ensures { Carries basis.now.plan.now.asked (work_planned basis.now.plan.now begins) (change_of O.written O.faults out.old out.new) (change_of E.written E.faults err.old err.new) result.status result.journal }
 {
-    let work = basis.code;
+    let work = basis.work;
     let workers = basis.plan.asked.workers;
     let mean_steps = MeanSteps::new(alloc, work);
     let run_all = |tasks: Seq<Task>| -> Result<Seq<Done>, AllocError>
@@ -78,11 +78,11 @@ fn carry_boards<R: Threads + Sync, O: Sink, E: Sink, G: Gate>(
     err: &mut E,
     gate: &G,
 ) -> Outcome
-    requires planned { IsPlanned basis.now.plan.now basis.now.code.now begins }
+    requires planned { IsPlanned basis.now.plan.now basis.now.work.now begins }
     requires writes { Writes basis.now.plan.now.asked.command basis.now.output }
     ensures { Carries basis.now.plan.now.asked (work_planned basis.now.plan.now begins) (change_of O.written O.faults out.old out.new) (change_of E.written E.faults err.old err.new) result.status result.journal }
 {
-    let work = basis.code;
+    let work = basis.work;
     let workers = basis.plan.asked.workers;
     let mean_steps = MeanSteps::new(alloc, work);
     let run_all = |tasks: Seq<Task>| -> Result<Seq<Done>, AllocError>
@@ -106,11 +106,11 @@ fn carry_stealing<R: Threads + Sync, O: Sink, E: Sink, G: Gate>(
     err: &mut E,
     gate: &G,
 ) -> Outcome
-    requires planned { IsPlanned basis.now.plan.now basis.now.code.now begins }
+    requires planned { IsPlanned basis.now.plan.now basis.now.work.now begins }
     requires writes { Writes basis.now.plan.now.asked.command basis.now.output }
     ensures { Carries basis.now.plan.now.asked (work_planned basis.now.plan.now begins) (change_of O.written O.faults out.old out.new) (change_of E.written E.faults err.old err.new) result.status result.journal }
 {
-    let work = basis.code;
+    let work = basis.work;
     let workers = basis.plan.asked.workers;
     let mean_steps = MeanSteps::new(alloc, work);
     let run_all = |tasks: Seq<Task>| -> Result<(Seq<Done>, (u64, u64, u64)), AllocError>
@@ -132,7 +132,7 @@ fn carry_by_kind<R: Threads + Sync, O: Sink, E: Sink, G: Gate>(
     err: &mut E,
     gate: &G,
 ) -> Outcome
-    requires planned { IsPlanned basis.now.plan.now basis.now.code.now begins }
+    requires planned { IsPlanned basis.now.plan.now basis.now.work.now begins }
     requires writes { Writes basis.now.plan.now.asked.command basis.now.output }
     ensures { Carries basis.now.plan.now.asked (work_planned basis.now.plan.now begins) (change_of O.written O.faults out.old out.new) (change_of E.written E.faults err.old err.new) result.status result.journal }
 {
@@ -184,7 +184,7 @@ fn put_one_rechecked<R: Threads + Sync, O: Sink, G: Gate>(
     };
     let basis = Basis {
         plan: &plan,
-        code: &work,
+        work: &work,
         output: Output::Lines,
     };
     let put = put_untold(rt, alloc, &basis, begins, out, gate);
@@ -267,7 +267,7 @@ pub fn carry_out<R: Threads + Sync, O: Sink, E: Sink, G: Gate>(
             };
             let basis = Basis {
                 plan: &plan,
-                code: &work,
+                work: &work,
                 output,
             };
             let outcome = carry_by_kind(rt, alloc, &basis, begins, out, err, gate);

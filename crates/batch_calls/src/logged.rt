@@ -32,8 +32,8 @@ fn put_noted<R: Threads + Sync, C: Crew, O: Sink, L: Sink>(
     out: &mut O,
     log: &mut L,
 ) -> Result<Report, EngineStop>
-    requires planned { IsPlanned basis.now.plan.now basis.now.code.now begins }
-    requires fresh { IsFresh C.ready C.work C.out C.posted crew.old basis.now.code.now }
+    requires planned { IsPlanned basis.now.plan.now basis.now.work.now begins }
+    requires fresh { IsFresh C.ready C.work C.out C.posted crew.old basis.now.work.now }
     requires run { basis.now.plan.now.asked.command ≡ command.Log }
     ensures lines { let taken = change_of O.written O.faults out.old out.new in let logged = change_of L.written L.faults log.old log.new in
         RunsIf (Fails taken ⊎ Fails logged) (work_planned basis.now.plan.now begins) taken result }
@@ -48,7 +48,7 @@ fn put_noted<R: Threads + Sync, C: Crew, O: Sink, L: Sink>(
     } = begins;
     let mut notes = LogNotes::new(alloc);
     drive_noted(
-        rt, alloc, basis.code, layout, inputs, faults, limits, crew, out, &mut notes, log,
+        rt, alloc, basis.work, layout, inputs, faults, limits, crew, out, &mut notes, log,
     )
 }
 
@@ -63,8 +63,8 @@ pub fn put_logged<R: Threads + Sync, C: Crew, O: Sink, L: Sink>(
     out: &mut O,
     log: &mut L,
 ) -> Result<Report, EngineStop>
-    requires planned { IsPlanned basis.now.plan.now basis.now.code.now begins }
-    requires fresh { IsFresh C.ready C.work C.out C.posted crew.old basis.now.code.now }
+    requires planned { IsPlanned basis.now.plan.now basis.now.work.now begins }
+    requires fresh { IsFresh C.ready C.work C.out C.posted crew.old basis.now.work.now }
     requires run { basis.now.plan.now.asked.command ≡ command.Log }
     ensures text { let taken = change_of O.written O.faults out.old out.new in let logged = change_of L.written L.faults log.old log.new in
         let work = work_planned basis.now.plan.now begins in

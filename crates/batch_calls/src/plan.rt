@@ -33,7 +33,7 @@ pub struct Begins {
 
 /// What is asked for a run that may begin, and its accepted program.
 #[derive(Drop)]
-pub struct Plan {
+pub struct AskedRun {
     pub asked: Asked,
     pub checked: Checked,
 }
@@ -85,7 +85,7 @@ pub fn plan_of(
     alloc: Global,
     request: Request,
     recheck: Recheck,
-) -> Result<(Work, Plan, Begins), AllocError>
+) -> Result<(Work, AskedRun, Begins), AllocError>
     requires { IsSound request.asked (plain_program (program_of request.checked)) request.inputs }
     ensures plan { IfOk result (λ made. IsPlanned made.1 made.0 made.2) }
     ensures work { IfOk result (λ made. work_planned made.1 made.2 ≡ work_of request) }
@@ -119,5 +119,5 @@ pub fn plan_of(
         faults,
         limits,
     };
-    Ok((work, Plan { asked, checked }, begins))
+    Ok((work, AskedRun { asked, checked }, begins))
 }

@@ -75,7 +75,7 @@ fn tail_of(alloc: Global, basis: &Basis, report: &Report) -> Result<Text, AllocE
     ensures { IfOk result (λ text. text ≡ told_tail (plain_program (program_of basis.now.plan.now.checked)) report.now) }
 {
     let checked = &basis.plan.checked;
-    let recheck = &basis.code.recheck;
+    let recheck = &basis.work.recheck;
     let tail = tail_text(alloc, checked, report)?;
     if recheck.is_on() && !is_tail_text(alloc, tail.as_slice(), checked, report)? {
         recheck.note_damaged(last_of(report));
@@ -143,8 +143,8 @@ fn put_lines<R: Threads + Sync, C: Crew, O: Sink>(
     crew: &mut C,
     out: &mut O,
 ) -> Result<Report, EngineStop>
-    requires planned { IsPlanned basis.now.plan.now basis.now.code.now begins }
-    requires fresh { IsFresh C.ready C.work C.out C.posted crew.old basis.now.code.now }
+    requires planned { IsPlanned basis.now.plan.now basis.now.work.now begins }
+    requires fresh { IsFresh C.ready C.work C.out C.posted crew.old basis.now.work.now }
     ensures { RunsWork (work_planned basis.now.plan.now begins) (change_of O.written O.faults out.old out.new) result }
 {
     let Begins {
@@ -154,7 +154,7 @@ fn put_lines<R: Threads + Sync, C: Crew, O: Sink>(
         faults,
         limits,
     } = begins;
-    let code = basis.code;
+    let code = basis.work;
     match recovery {
         Recovery::Selective => drive(rt, alloc, code, layout, inputs, faults, limits, crew, out),
         Recovery::Rollback(every) => ckpt_drive(
@@ -172,8 +172,8 @@ fn put_run<R: Threads + Sync, C: Crew, O: Sink>(
     crew: &mut C,
     out: &mut O,
 ) -> Result<Report, EngineStop>
-    requires planned { IsPlanned basis.now.plan.now basis.now.code.now begins }
-    requires fresh { IsFresh C.ready C.work C.out C.posted crew.old basis.now.code.now }
+    requires planned { IsPlanned basis.now.plan.now basis.now.work.now begins }
+    requires fresh { IsFresh C.ready C.work C.out C.posted crew.old basis.now.work.now }
     requires lines { WritesLines basis.now.plan.now.asked.command }
     ensures { let work = work_planned basis.now.plan.now begins in
         RanFor work (run_text (plain_ran work) (restarts_in work) (length work.faults)) (change_of O.written O.faults out.old out.new) result }
@@ -205,8 +205,8 @@ fn put_soak<R: Threads + Sync, C: Crew, O: Sink>(
     crew: &mut C,
     out: &mut O,
 ) -> Result<Report, EngineStop>
-    requires planned { IsPlanned basis.now.plan.now basis.now.code.now begins }
-    requires fresh { IsFresh C.ready C.work C.out C.posted crew.old basis.now.code.now }
+    requires planned { IsPlanned basis.now.plan.now basis.now.work.now begins }
+    requires fresh { IsFresh C.ready C.work C.out C.posted crew.old basis.now.work.now }
     requires run { basis.now.plan.now.asked.command ≡ command.Soak soak }
     ensures { let work = work_planned basis.now.plan.now begins in
         RanFor work (run_soak soak (plain_ran work) (restarts_in work) (length work.faults)) (change_of O.written O.faults out.old out.new) result }
@@ -216,7 +216,7 @@ fn put_soak<R: Threads + Sync, C: Crew, O: Sink>(
         Ok(report) => report,
         Err(stop) => return Err(stop),
     };
-    match put_summary(alloc, &basis.code.recheck, soak, &report, out) {
+    match put_summary(alloc, &basis.work.recheck, soak, &report, out) {
         Ok(()) => Ok(report),
         Err(fault) => Err(stopped(fault, report.journal)),
     }
@@ -278,19 +278,19 @@ pub fn carry_by<R: Threads + Sync, C: Crew, O: Sink, E: Sink>(
     out: &mut O,
     err: &mut E,
 ) -> Outcome
-    requires planned { IsPlanned basis.now.plan.now basis.now.code.now begins }
+    requires planned { IsPlanned basis.now.plan.now basis.now.work.now begins }
     requires writes { Writes basis.now.plan.now.asked.command basis.now.output }
-    requires fresh { IsFresh C.ready C.work C.out C.posted crew.old basis.now.code.now }
+    requires fresh { IsFresh C.ready C.work C.out C.posted crew.old basis.now.work.now }
     ensures { Carries basis.now.plan.now.asked (work_planned basis.now.plan.now begins) (change_of O.written O.faults out.old out.new) (change_of E.written E.faults err.old err.new) result.status result.journal }
 {
     match basis.output {
         Output::Lines => {
             let ran = put_run(rt, alloc, basis, begins, crew, out);
-            outcome_of(alloc, basis.plan.asked.trace, &basis.code.recheck, ran, err)
+            outcome_of(alloc, basis.plan.asked.trace, &basis.work.recheck, ran, err)
         }
         Output::Summary(soak) => {
             let ran = put_soak(rt, alloc, basis, begins, soak, crew, out);
-            outcome_of(alloc, basis.plan.asked.trace, &basis.code.recheck, ran, err)
+            outcome_of(alloc, basis.plan.asked.trace, &basis.work.recheck, ran, err)
         }
         Output::LinesAndLog => {
             let ran = put_logged(rt, alloc, basis, begins, crew, out, err);
@@ -319,12 +319,12 @@ pub fn put_untold<R: Threads + Sync, O: Sink, G: Gate>(
     out: &mut O,
     gate: &G,
 ) -> Result<u8, SinkFault>
-    requires planned { IsPlanned basis.now.plan.now basis.now.code.now begins }
+    requires planned { IsPlanned basis.now.plan.now basis.now.work.now begins }
     requires lines { WritesLines basis.now.plan.now.asked.command }
     ensures { let work = work_planned basis.now.plan.now begins in
         PutFor (run_text (plain_ran work) (restarts_in work) (length work.faults)) (end_status (plain_ran work).end) (change_of O.written O.faults out.old out.new) result }
 {
-    let mut crew = InlineCrew::new(alloc, basis.code, gate);
+    let mut crew = InlineCrew::new(alloc, basis.work, gate);
     let ran = put_run(rt, alloc, basis, begins, &mut crew, out);
     drop(crew);
     match ran {

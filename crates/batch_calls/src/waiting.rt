@@ -14,7 +14,7 @@ ghost use Rattle.batch_calls.specs.inner.Ways.{Writes};
 
 use crate::basis::{Basis, Output, Way, way_of};
 use crate::crews::carry_out;
-use crate::plan::{Begins, Plan, plan_of};
+use crate::plan::{AskedRun, Begins, plan_of};
 use crate::reading::read_by;
 use crate::run::{carry_by, unbegun};
 use call_cases::{Outcome, Request, refused_outcome};
@@ -29,7 +29,10 @@ use subthread::{Recheck, Work};
 
 // The code of a request's program, to be shared, the plan of its run, and what that begins with. The error is that
 // memory is out.
-fn shared_plan_of(alloc: Global, request: Request) -> Result<(Arc<Work>, Plan, Begins), AllocError>
+fn shared_plan_of(
+    alloc: Global,
+    request: Request,
+) -> Result<(Arc<Work>, AskedRun, Begins), AllocError>
     requires { IsSound request.asked (plain_program (program_of request.checked)) request.inputs }
     ensures plan { IfOk result (λ made. IsPlanned made.1 (arc_value made.0) made.2) }
     ensures work { IfOk result (λ made. work_planned made.1 made.2 ≡ work_of request) }
@@ -81,8 +84,8 @@ fn carry_lasting<
     err: &mut E,
     gate: &Arc<G>,
 ) -> Outcome
-    requires work { basis.now.code.now ≡ arc_value work.now }
-    requires planned { IsPlanned basis.now.plan.now basis.now.code.now begins }
+    requires work { basis.now.work.now ≡ arc_value work.now }
+    requires planned { IsPlanned basis.now.plan.now basis.now.work.now begins }
     requires writes { Writes basis.now.plan.now.asked.command basis.now.output }
     ensures { Carries basis.now.plan.now.asked (work_planned basis.now.plan.now begins) (change_of O.written O.faults out.old out.new) (change_of E.written E.faults err.old err.new) result.status result.journal }
 {
@@ -118,7 +121,7 @@ fn carry_shared<
     };
     let basis = Basis {
         plan: &plan,
-        code: &work,
+        work: &work,
         output,
     };
     let outcome = carry_lasting(rt, &work, &basis, begins, out, err, gate);

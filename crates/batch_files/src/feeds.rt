@@ -23,7 +23,7 @@ pub fn read_feed(alloc: Global, bytes: &Text, fields: u32, room: u32) -> Result<
     ensures cells { Answers (λ feed. feed.cells) result (spec.feed_by fields room (csv_rows bytes.now)) }
     ensures fields { IfOk result (λ feed. feed.fields ≡ fields) }
 {
-    let table = Cells {
+    let table = FeedTable {
         fields: fields as usize,
         room: room as usize,
         cells: Vec::new(alloc),
@@ -47,13 +47,13 @@ fn push_numbers(cells: &mut Vec<i64>, row: &ByteRecord) -> Result<(), RowFault>
 
 // The cells of a feed while its rows are read.
 #[derive(Drop)]
-struct Cells {
+struct FeedTable {
     fields: usize,
     room: usize,
     cells: Vec<i64>,
 }
 
-impl Table for Cells {
+impl Table for FeedTable {
     ghost rule = { λ begun. spec.feed_rule begun.fields begun.room };
 
     ghost holds = { λ begun table rows. (table.fields ≡ begun.fields) × (table.room ≡ begun.room)

@@ -19,7 +19,7 @@ use std::alloc::{AllocError, Global};
 pub fn read_records(alloc: Global, bytes: &Text, size: u32) -> Result<Nums, FileFault>
     ensures { Answers (λ cells. cells) result (spec.records_by size (csv_rows bytes.now)) }
 {
-    let cells = Cells::new(alloc, size)?;
+    let cells = RecordTable::new(alloc, size)?;
     let cells = put_rows(alloc, bytes.as_slice(), cells)?;
     Ok(Seq::from_vec(cells.values(alloc)?))
 }
@@ -50,18 +50,18 @@ fn entry_of(size: u64, row: &ByteRecord) -> Result<Entry, FileKind>
 
 // The cells of a record while its rows are read, each with the value of its row.
 #[derive(Drop)]
-struct Cells {
+struct RecordTable {
     cells: Vec<Option<i64>>,
 }
 
-impl Cells {
+impl RecordTable {
     // As many cells as the size, without a row.
-    fn new(alloc: Global, size: u32) -> Result<Cells, AllocError>
+    fn new(alloc: Global, size: u32) -> Result<RecordTable, AllocError>
         ensures { IfOk result (λ table. table.cells.items ≡ replicate size None) }
     {
         let mut cells = Vec::new(alloc);
         cells.resize(size as usize, None)?;
-        Ok(Cells { cells })
+        Ok(RecordTable { cells })
     }
 
     // The values of the cells, 0 where there is none.
@@ -75,7 +75,7 @@ impl Cells {
     }
 }
 
-impl Table for Cells {
+impl Table for RecordTable {
     ghost rule = { λ begun. spec.record_rule (length begun.cells.items) };
 
     ghost holds = { λ begun table rows. AreCells (length begun.cells.items) rows table.cells.items };

@@ -6,7 +6,7 @@ use native.Mathlib.Decide.{dec_le}
 use lib.ListN.{get_elem?}
 use Rattle.atomic_table.specs.Table.{State}
 use Rattle.desk_board.specs.Rule.{View, times, drawns, helds, takens, Stage, waiting, drawn, done, collected, Kept}
-use Rattle.desk_board.specs.declared.view.Plan.{Plan}
+use Rattle.desk_board.specs.declared.view.BoardSetup.{BoardSetup}
 use Rattle.desk_board.specs.declared.view.Slot.{Slot}
 use Rattle.desk_board.specs.Told.{HasEnded}
 use Rattle.desk_board.specs.Facts.{tickets, word_of, IsView, DeskFacts, ViewFacts, BoardFacts}
@@ -51,7 +51,7 @@ module _ {J W R : Type 0} (is_run : W → J → R → Type 0) (with : W) (s : St
     out = λ l ne. x.2;
   }
 
-module _ {J W R : Type 0} (fits : W → J → Type 0) (is_run : W → J → R → Type 0) (plan : Plan J W) (s : State (Slot J R) (View J W))
+module _ {J W R : Type 0} (fits : W → J → Type 0) (is_run : W → J → R → Type 0) (plan : BoardSetup J W) (s : State (Slot J R) (View J W))
     (r : Kept fits is_run plan s) where
   abbrev m : ℕ
   m = length plan.jobs.value.items

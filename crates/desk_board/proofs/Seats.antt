@@ -11,7 +11,7 @@ use Rattle.atomic_table.specs.Table.{State, Splits, Joins, opening}
 use Rattle.atomic_table.proofs.Lists.{at_set, set_else}
 use Rattle.desk_board.specs.declared.view.Book.{Book}
 use Rattle.desk_board.specs.Rule.{View, times, live, waiting, about_of, blank, first_view, no_book, drawns, helds, takens, ViewOk, Kept, no_hand}
-use Rattle.desk_board.specs.declared.view.Plan.{Plan}
+use Rattle.desk_board.specs.declared.view.BoardSetup.{BoardSetup}
 use Rattle.desk_board.specs.declared.view.Slot.{Slot}
 use Rattle.desk_board.specs.declared.view.Slot.TheVariants.{Todo}
 use Rattle.desk_board.specs.Told.{hand_kept, hand_given, hand_both}
@@ -22,7 +22,7 @@ use Rattle.desk_board.proofs.Places.{found_set, each_set, each_snoc}
 use Rattle.desk_board.proofs.LaidOut.{laid_at}
 use Rattle.desk_board.proofs.Stages.{stage_stays}
 
-module _ {J W R : Type 0} (fits : W → J → Type 0) (is_run : W → J → R → Type 0) (plan : Plan J W) where
+module _ {J W R : Type 0} (fits : W → J → Type 0) (is_run : W → J → R → Type 0) (plan : BoardSetup J W) where
   abbrev V : Type 0
   V = View J W
 

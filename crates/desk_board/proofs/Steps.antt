@@ -16,7 +16,7 @@ use Rattle.atomic_table.proofs.Lists.{set_here, set_else}
 use Rattle.desk_board.specs.declared.view.About.{About}
 use Rattle.desk_board.specs.declared.view.Book.{Book}
 use Rattle.desk_board.specs.Rule.{View, times, live, drawn, done, collected, about_of, drawns, ViewOk, DeskOk, Kept}
-use Rattle.desk_board.specs.declared.view.Plan.{Plan}
+use Rattle.desk_board.specs.declared.view.BoardSetup.{BoardSetup}
 use Rattle.desk_board.specs.declared.view.Slot.{Slot}
 use Rattle.desk_board.specs.declared.view.Slot.TheVariants.{Todo, Done}
 use Rattle.desk_board.specs.Told.{without, hand_drew, hand_ended, hand_finished, book_looked, book_took, DrewFrom, drew, finished, looked, IsRunAt, NoneTwice}
@@ -26,7 +26,7 @@ use Rattle.desk_board.proofs.Hands.{ended_stays, live_none, live_share}
 use Rattle.desk_board.proofs.Places.{got, found_set, each_set}
 use Rattle.desk_board.proofs.Stages.{stage_stays, is_waiting, is_drawn, is_done, past_done, word_low, drawn_at_most, drawn_past, is_below}
 
-module _ {J W R : Type 0} (fits : W → J → Type 0) (is_run : W → J → R → Type 0) (plan : Plan J W) where
+module _ {J W R : Type 0} (fits : W → J → Type 0) (is_run : W → J → R → Type 0) (plan : BoardSetup J W) where
   abbrev V : Type 0
   V = View J W
 

@@ -10,7 +10,7 @@ use Rattle.desk_board.specs.declared.view.About.{About}
 use Rattle.desk_board.specs.declared.view.Hand.{Hand}
 use Rattle.desk_board.specs.declared.view.Book.{Book}
 use Rattle.desk_board.specs.declared.view.SeatView.{SeatView}
-use Rattle.desk_board.specs.declared.view.Plan.{Plan}
+use Rattle.desk_board.specs.declared.view.BoardSetup.{BoardSetup}
 use Rattle.desk_board.specs.declared.view.Slot.{Slot}
 use Rattle.desk_board.specs.declared.view.Slot.TheVariants.{Todo, Done}
 
@@ -51,7 +51,7 @@ first_book = record { clerk = 1; seen = []; taken = []; looks = 0; last = None }
 
 module _ {J W : Type 0} where
   -- the jobs of the board, and what they are run under
-  abbrev pub about_of : Plan J W → About J W
+  abbrev pub about_of : BoardSetup J W → About J W
   about_of plan = record { jobs = plan.jobs.value.items; with = plan.with.value }
 
   -- a view that knows nothing: a seat that was joined into another, or the seat of a desk
@@ -59,7 +59,7 @@ module _ {J W : Type 0} where
   blank = record { about = None; hand = no_hand; book = no_book }
 
   -- the first seat has every share, and is the clerk
-  abbrev pub first_view : Plan J W → View J W
+  abbrev pub first_view : BoardSetup J W → View J W
   first_view plan = record { about = Some (about_of plan); hand = first_hand; book = first_book }
 
   -- how often all views together have desk k as drawn, as held and as taken
@@ -107,7 +107,7 @@ module _ {J W R : Type 0} (is_run : W → J → R → Type 0) where
 --   few: so the counter can't wrap; wide, deep: there is a word and a slot for each desk; shares: the passes share 64 parts;
 --   clerks: there is one clerk; low: a ticket past the last desk ends a pass, so there are at most 64 of them;
 --   beyond: nobody has drawn a desk that isn't there
-pub record Kept {J W R : Type 0} (fits : W → J → Type 0) (is_run : W → J → R → Type 0) (plan : Plan J W)
+pub record Kept {J W R : Type 0} (fits : W → J → Type 0) (is_run : W → J → R → Type 0) (plan : BoardSetup J W)
     (s : State (Slot J R) (View J W)) : Type 0 where
   pub all_fit : All (fits plan.with.value) plan.jobs.value.items
   pub few : length plan.jobs.value.items ≤ 65536

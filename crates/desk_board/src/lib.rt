@@ -16,4 +16,4 @@ pub use laws::rule_law;
 pub use made::{lay_out, take_back};
 pub use plays::{Cut, Gather, Leave, Merge, Office, Return, Take};
 pub use types::{Board, Clerk, Desk, Pass};
-pub use view::{About, Book, PassHand, Plan, SeatView, Slot};
+pub use view::{About, BoardSetup, Book, PassHand, SeatView, Slot};

@@ -6,7 +6,7 @@ ghost use Rattle.desk_board.specs.declared.view.Slot.TheVariants.{Todo};
 
 use crate::plays::Office;
 use crate::types::{Board, Clerk, Pass};
-use crate::view::{Plan, Slot};
+use crate::view::{BoardSetup, Slot};
 use atomic_table::{Refused, Table};
 use gp_base::{Job, Seq};
 use std::alloc::{AllocError, Global};
@@ -59,7 +59,7 @@ impl<J: Job> Board<J> {
         ensures refused { IfErr result (λ refusal. refusal.1 ≡ jobs) }
     {
         let mut jobs = jobs.into_vec();
-        let plan = Plan {
+        let plan = BoardSetup {
             jobs: Snapshot::of(&jobs),
             with: Snapshot::of(with),
         };

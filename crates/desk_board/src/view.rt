@@ -87,7 +87,7 @@ impl PassHand for Hand {
 
 /// What the rule is told once, when the table is made.
 #[derive(Drop)]
-pub struct Plan<J, W> {
+pub struct BoardSetup<J, W> {
     pub jobs: Snapshot<Vec<J>>,
     pub with: Snapshot<W>,
 }

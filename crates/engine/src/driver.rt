@@ -23,7 +23,7 @@ use whole_run::{Recovery, drive_by};
 pub fn drive_noted<R: Threads + Sync, C: Crew, O: Sink, N: Notes, L: Sink>(
     rt: &R,
     alloc: Global,
-    w: &Work,
+    work: &Work,
     layout: Layout,
     inputs: Inputs,
     faults: Faults,
@@ -33,17 +33,17 @@ pub fn drive_noted<R: Threads + Sync, C: Crew, O: Sink, N: Notes, L: Sink>(
     notes: &mut N,
     log: &mut L,
 ) -> Result<Report, EngineStop>
-    requires suits { Suits w.now layout inputs limits }
+    requires suits { Suits work.now layout inputs limits }
     requires ready { C.ready crew.old }
-    requires work { C.work crew.old ≡ w.now }
+    requires work { C.work crew.old ≡ work.now }
     requires none_out { C.out crew.old ≡ [] }
     requires none_posted { C.posted crew.old ≡ [] }
-    ensures journal { JournalStands (batch_of w.now inputs limits faults) (journal_in result) }
-    ensures report { IfOk result (ReportsRun (batch_of w.now inputs limits faults)) }
-    ensures lines { OnOk result (Appends (O.written out.old) (O.written out.new) (printed (all_lines (batch_of w.now inputs limits faults)))) }
-    ensures partly { WritesRetired (batch_of w.now inputs limits faults) (O.written out.old) (O.written out.new) (journal_in result) }
+    ensures journal { JournalStands (batch_of work.now inputs limits faults) (journal_in result) }
+    ensures report { IfOk result (ReportsRun (batch_of work.now inputs limits faults)) }
+    ensures lines { OnOk result (Appends (O.written out.old) (O.written out.new) (printed (all_lines (batch_of work.now inputs limits faults)))) }
+    ensures partly { WritesRetired (batch_of work.now inputs limits faults) (O.written out.old) (O.written out.new) (journal_in result) }
     ensures cause { HasRunCauses (O.faults out.old) (O.faults out.new) (L.faults log.old) (L.faults log.new) result }
-    ensures notes { NotesRun (N.tells notes.old) (N.tells notes.new) N.part (batch_of w.now inputs limits faults) (L.written log.old) (L.written log.new) result }
+    ensures notes { NotesRun (N.tells notes.old) (N.tells notes.new) N.part (batch_of work.now inputs limits faults) (L.written log.old) (L.written log.new) result }
     ensures ready { C.ready crew.new }
     ensures work { C.work crew.new ≡ C.work crew.old }
     ensures posts { ArePosts (C.posted crew.new) (journal_in result) }
@@ -53,7 +53,7 @@ pub fn drive_noted<R: Threads + Sync, C: Crew, O: Sink, N: Notes, L: Sink>(
         rt,
         alloc,
         Recovery::Selective,
-        w,
+        work,
         layout,
         inputs,
         faults,
@@ -72,7 +72,7 @@ pub fn drive_noted<R: Threads + Sync, C: Crew, O: Sink, N: Notes, L: Sink>(
 pub fn drive<R: Threads + Sync, C: Crew, O: Sink>(
     rt: &R,
     alloc: Global,
-    w: &Work,
+    work: &Work,
     layout: Layout,
     inputs: Inputs,
     faults: Faults,
@@ -80,15 +80,15 @@ pub fn drive<R: Threads + Sync, C: Crew, O: Sink>(
     crew: &mut C,
     out: &mut O,
 ) -> Result<Report, EngineStop>
-    requires suits { Suits w.now layout inputs limits }
+    requires suits { Suits work.now layout inputs limits }
     requires ready { C.ready crew.old }
-    requires work { C.work crew.old ≡ w.now }
+    requires work { C.work crew.old ≡ work.now }
     requires none_out { C.out crew.old ≡ [] }
     requires none_posted { C.posted crew.old ≡ [] }
-    ensures journal { JournalStands (batch_of w.now inputs limits faults) (journal_in result) }
-    ensures report { IfOk result (ReportsRun (batch_of w.now inputs limits faults)) }
-    ensures lines { OnOk result (Appends (O.written out.old) (O.written out.new) (printed (all_lines (batch_of w.now inputs limits faults)))) }
-    ensures partly { WritesRetired (batch_of w.now inputs limits faults) (O.written out.old) (O.written out.new) (journal_in result) }
+    ensures journal { JournalStands (batch_of work.now inputs limits faults) (journal_in result) }
+    ensures report { IfOk result (ReportsRun (batch_of work.now inputs limits faults)) }
+    ensures lines { OnOk result (Appends (O.written out.old) (O.written out.new) (printed (all_lines (batch_of work.now inputs limits faults)))) }
+    ensures partly { WritesRetired (batch_of work.now inputs limits faults) (O.written out.old) (O.written out.new) (journal_in result) }
     ensures cause { HasRunCause (O.faults out.old) (O.faults out.new) result }
     ensures ready { C.ready crew.new }
     ensures work { C.work crew.new ≡ C.work crew.old }
@@ -100,7 +100,7 @@ pub fn drive<R: Threads + Sync, C: Crew, O: Sink>(
     drive_noted(
         rt,
         alloc,
-        w,
+        work,
         layout,
         inputs,
         faults,

@@ -23,7 +23,7 @@ use whole_run::{Recovery, drive_by};
 pub fn ckpt_drive<R: Threads + Sync, C: Crew, O: Sink>(
     rt: &R,
     alloc: Global,
-    w: &Work,
+    work: &Work,
     layout: Layout,
     inputs: Inputs,
     faults: Faults,
@@ -32,16 +32,16 @@ pub fn ckpt_drive<R: Threads + Sync, C: Crew, O: Sink>(
     crew: &mut C,
     out: &mut O,
 ) -> Result<Report, EngineStop>
-    requires suits { Suits w.now layout inputs limits }
+    requires suits { Suits work.now layout inputs limits }
     requires some { 1 ≤ every }
     requires ready { C.ready crew.old }
-    requires work { C.work crew.old ≡ w.now }
+    requires work { C.work crew.old ≡ work.now }
     requires none_out { C.out crew.old ≡ [] }
     requires none_posted { C.posted crew.old ≡ [] }
-    ensures journal { JournalStands (batch_of every w.now inputs limits faults) (journal_in result) }
-    ensures report { IfOk result (ReportsRun (batch_of every w.now inputs limits faults)) }
-    ensures lines { OnOk result (Appends (O.written out.old) (O.written out.new) (printed (all_lines (batch_of every w.now inputs limits faults)))) }
-    ensures partly { WritesRetired (batch_of every w.now inputs limits faults) (O.written out.old) (O.written out.new) (journal_in result) }
+    ensures journal { JournalStands (batch_of every work.now inputs limits faults) (journal_in result) }
+    ensures report { IfOk result (ReportsRun (batch_of every work.now inputs limits faults)) }
+    ensures lines { OnOk result (Appends (O.written out.old) (O.written out.new) (printed (all_lines (batch_of every work.now inputs limits faults)))) }
+    ensures partly { WritesRetired (batch_of every work.now inputs limits faults) (O.written out.old) (O.written out.new) (journal_in result) }
     ensures cause { HasRunCause (O.faults out.old) (O.faults out.new) result }
     ensures ready { C.ready crew.new }
     ensures work { C.work crew.new ≡ C.work crew.old }
@@ -54,7 +54,7 @@ pub fn ckpt_drive<R: Threads + Sync, C: Crew, O: Sink>(
         rt,
         alloc,
         Recovery::Rollback(every),
-        w,
+        work,
         layout,
         inputs,
         faults,

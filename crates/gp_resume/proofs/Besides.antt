@@ -16,7 +16,7 @@ use Rattle.token_order.specs.View.{Roomy}
 use Rattle.gp_base.specs.declared.limits.TheConstants.{MOST_THREADS}
 use Rattle.task_ast.proofs.Standings.{passed_same}
 use Rattle.task_ast.proofs.SeatLimits.{most_threads_law}
-use Rattle.gp_resume.specs.declared.course.Plan.{Plan}
+use Rattle.gp_resume.specs.declared.course.ResumePlan.{ResumePlan}
 use Rattle.gp_resume.specs.declared.course.Begun.{Begun}
 use Rattle.gp_resume.specs.declared.course.Course.{Course}
 use Rattle.gp_resume.specs.inner.Course.{IsSuited, Stands, spot_place}
@@ -39,15 +39,15 @@ keeps-on first then =
     }
 
 -- after more turns that passed
-pub past-on : (plan : Plan) (x : Plain) (before now : Course) → StandsPast plan x before → KeepsTurning before now → StandsPast plan x now
+pub past-on : (plan : ResumePlan) (x : Plain) (before now : Course) → StandsPast plan x before → KeepsTurning before now → StandsPast plan x now
 past-on plan x before now past kept = record { before = past.before; stands = past.stands; kept = keeps-on past.kept kept }
 
-pub past-none : (plan : Plan) (x : Plain) (course : Course) → Stands plan x course → StandsPast plan x course
+pub past-none : (plan : ResumePlan) (x : Plain) (course : Course) → Stands plan x course → StandsPast plan x course
 past-none plan x course stands =
     record { before = course; stands = stands; kept = record { passed = at_once; spots = refl; store = refl; issued = refl } }
 
 -- there is a spot for each thread of the run
-pub past-threads : (plan : Plan) (x : Plain) (course : Course) → StandsPast plan x course → length course.spots.items ≡ length x.table.seats
+pub past-threads : (plan : ResumePlan) (x : Plain) (course : Course) → StandsPast plan x course → length course.spots.items ≡ length x.table.seats
 past-threads plan x course past =
     ap length past.kept.spots ∙ (sym (length-map past.before.spots.items spot_place)
     ∙ (past.stands.same.others ∙ ap (λ (table : Table). length table.seats) (sym past.stands.same.table)))
@@ -67,7 +67,7 @@ pub looked : (table : Table) (t u : ℕ) (begins : Next) (child : Option ℕ) (a
 looked table t u begins child after e is =
     ap (λ o. unwrap_or o u) (is ∙ ap (option_map (λ tried. tried.0)) (issue_law table t begins child after e).tried)
 
-module _ (plan : Plan) (suits : IsSuited plan) where
+module _ (plan : ResumePlan) (suits : IsSuited plan) where
   pub first-joins : (x : Plain) (now : Course) → StandsPast plan x now
       → (t : ℕ) (begins : Next) (child : Option ℕ) (ring : Roomy) → turn now.ring.table ≡ TurnDone (Issue t begins child ring.table)
       → (then : Course) (begun : Begun) → IsIssued plan.work.now (record now { ring = ring }) then t begins child begun
@@ -109,7 +109,7 @@ module _ (plan : Plan) (suits : IsSuited plan) where
       (omega arith, omega arith, omega arith)
 
 -- another ring with the same table
-pub flight-ring : (plan : Plan) (threads : ℕ) (x y : Plain) (fs : List Flown) (now : Course) (ring : Roomy) → ring.table ≡ now.ring.table
+pub flight-ring : (plan : ResumePlan) (threads : ℕ) (x y : Plain) (fs : List Flown) (now : Course) (ring : Roomy) → ring.table ≡ now.ring.table
     → Flight plan threads x y fs now → Flight plan threads x y fs (record now { ring = ring })
 flight-ring plan threads x y fs now ring same flight =
     record {

@@ -3,7 +3,7 @@ use Rattle.std.proofs.Common.{◌≡◌, ◌+◌, ◌≤◌, List, [], ◌∷◌
 use Rattle.std.proofs.lemmas.List.{length-map}
 use Rattle.task_ast.specs.meaning.Plain.{Subthread}
 use Rattle.task_ast.specs.Plain.{Plain}
-use Rattle.gp_resume.specs.declared.course.Plan.{Plan}
+use Rattle.gp_resume.specs.declared.course.ResumePlan.{ResumePlan}
 use Rattle.gp_resume.specs.inner.Flights.{Flown, Chain}
 use Rattle.gp_resume.specs.inner.Going.{rest, last}
 use Rattle.gp_resume.proofs.Onward.{issued-next, rest-goes, last-goes}
@@ -12,7 +12,7 @@ use Rattle.gp_resume.proofs.Onward.{issued-next, rest-goes, last-goes}
 abbrev pub subthreads : List Flown → List Subthread
 subthreads fs = map (λ (f : Flown). f.subthread) fs
 
-module _ (plan : Plan) where
+module _ (plan : ResumePlan) where
   pub chain-rest : (x : Plain) (fs : List Flown) (y : Plain) → Chain plan x fs y → rest plan x ≡ subthreads fs ++ rest plan y
   chain-rest x [] y chain = ap (rest plan) chain
   chain-rest x (f ∷ fs) y chain =

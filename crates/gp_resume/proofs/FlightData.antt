@@ -28,7 +28,7 @@ use Rattle.record_store.specs.Given.{given_of, bundle_of, joined_value}
 use Rattle.record_store.specs.Lent.{marked}
 use Rattle.record_store.proofs.Marks.{marked-in, marked-out, length-marked}
 use Rattle.subthread.specs.Tasks.{program_in, under_of}
-use Rattle.gp_resume.specs.declared.course.Plan.{Plan}
+use Rattle.gp_resume.specs.declared.course.ResumePlan.{ResumePlan}
 use Rattle.gp_resume.specs.inner.Course.{IsSuited}
 use Rattle.gp_resume.specs.inner.Flights.{Flown, Each, IsFree, IsFlown, Chain, is_lent, task_from}
 
@@ -62,7 +62,7 @@ child-given : {X : Type 0} (child : Option ℕ) (rest : X) (c : ℕ × X) → op
 child-given None rest c e = absurd (cc e)
 child-given (Some k) rest c e = let same : k ≡ c.0 = ap (λ o. (unwrap_or o c).0) e in ap Some same
 
-module _ (plan : Plan) (suits : IsSuited plan) where
+module _ (plan : ResumePlan) (suits : IsSuited plan) where
   abbrev program : Program
   program = program_in plan.work.now
 

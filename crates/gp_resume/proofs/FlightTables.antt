@@ -41,7 +41,7 @@ use Rattle.lock_checker.proofs.WalkLemmas.{walk_law}
 use Rattle.task_code.specs.Reading.{Place}
 use Rattle.task_code.specs.Relation.{Rests}
 use Rattle.subthread.specs.Tasks.{machine_of, program_in}
-use Rattle.gp_resume.specs.declared.course.Plan.{Plan}
+use Rattle.gp_resume.specs.declared.course.ResumePlan.{ResumePlan}
 use Rattle.gp_resume.specs.declared.course.Begun.{Begun}
 use Rattle.gp_resume.specs.inner.Course.{IsSuited, IsSound}
 use Rattle.gp_resume.specs.inner.Flights.{Flown, Each, HasThread, IsFree, IsOut, KnowsBut, RestsAlike}
@@ -233,7 +233,7 @@ owned-is owners t l c =
     let same : r.0 ≡ l = omega arith in
     subst (λ l. owner_in owners l ≡ Some t) same r.2
 
-module _ (plan : Plan) (suits : IsSuited plan) where
+module _ (plan : ResumePlan) (suits : IsSuited plan) where
   abbrev program : Program
   program = program_in plan.work.now
 

@@ -47,7 +47,7 @@ use Rattle.subthread.specs.Tasks.{program_in, machine_of, under_of, task_of, pla
 use Rattle.subthread.proofs.HeldLocks.{owned_below}
 use Rattle.subthread.proofs.Lendings.{all-locks, as-lent}
 use Rattle.subthread.proofs.Among.{same_locks_back}
-use Rattle.gp_resume.specs.declared.course.Plan.{Plan}
+use Rattle.gp_resume.specs.declared.course.ResumePlan.{ResumePlan}
 use Rattle.gp_resume.specs.declared.course.Spot.{Spot}
 use Rattle.gp_resume.specs.declared.course.Course.{Course}
 use Rattle.gp_resume.specs.declared.course.Begun.{Begun}
@@ -70,7 +70,7 @@ some-same {a = a} e = ap (λ o. unwrap_or o a) e
 
 -- ---- lists
 
-chain-push : (plan : Plan) (x : Plain) (fs : List Flown) (f : Flown) → Chain plan x fs f.before → IsFlown plan f
+chain-push : (plan : ResumePlan) (x : Plain) (fs : List Flown) (f : Flown) → Chain plan x fs f.before → IsFlown plan f
     → Chain plan x (fs ++ f ∷ []) f.after
 chain-push plan x [] f chain flown = (sym chain, flown, refl)
 chain-push plan x (g ∷ fs) f chain flown = (chain.0, chain.1, chain-push plan g.after fs f chain.2 flown)
@@ -94,7 +94,7 @@ from-calm : (machine : Machine Point) (op : SyncOp) (t : ℕ) (state : State) (p
 from-calm machine (sync.Settle register control) t state point e = absurd (false≢true (sym e))
 from-calm machine _ t state point e = refl
 
-module _ (plan : Plan) (suits : IsSuited plan) where
+module _ (plan : ResumePlan) (suits : IsSuited plan) where
   abbrev program : Program
   program = program_in plan.work.now
 

@@ -29,14 +29,14 @@ use Rattle.subthread.specs.declared.task.Done.{Done}
 use Rattle.subthread.specs.Tasks.{program_in, machine_of, under_of, task_of, effect_of, place_of, place_left, body_from, actions_from, IsRun, Fits}
 use Rattle.subthread.proofs.Among.{same_locks_back}
 use Rattle.subthread.proofs.HeldLocks.{owned_increasing, bundle_locks, bundle_sizes}
-use Rattle.gp_resume.specs.declared.course.Plan.{Plan}
+use Rattle.gp_resume.specs.declared.course.ResumePlan.{ResumePlan}
 use Rattle.gp_resume.specs.inner.Course.{IsSuited}
 use Rattle.gp_resume.specs.inner.Flights.{Flown, IsFlown, task_from}
 use Rattle.gp_resume.proofs.FlightData.{flown-step}
 use Rattle.gp_resume.proofs.Tasks.{joins-numbered, child-next, child-fits, no-fewer}
 use Rattle.gp_resume.proofs.TurnsTaken.{follows-code}
 
-module _ (plan : Plan) (suits : IsSuited plan) (f : Flown) (flown : IsFlown plan f) where
+module _ (plan : ResumePlan) (suits : IsSuited plan) (f : Flown) (flown : IsFlown plan f) where
   abbrev program : Program
   program = program_in plan.work.now
 

@@ -11,7 +11,7 @@ use Rattle.record_store.specs.Lent.{MayComeHome}
 use Rattle.record_store.specs.Stored.{FitsChild}
 use Rattle.subthread.specs.declared.task.Done.{Done}
 use Rattle.subthread.specs.Tasks.{task_of, IsRun}
-use Rattle.gp_resume.specs.declared.course.Plan.{Plan}
+use Rattle.gp_resume.specs.declared.course.ResumePlan.{ResumePlan}
 use Rattle.gp_resume.specs.declared.course.Course.{Course}
 use Rattle.gp_resume.specs.meaning.Resumed.{lines_of}
 use Rattle.gp_resume.specs.inner.Course.{IsSuited}
@@ -36,7 +36,7 @@ no-fewer-then : (child : Option ℕ) (n : ℕ) → n ≤ with_child child n
 no-fewer-then None n = omega arith
 no-fewer-then (Some c) n = omega arith
 
-module _ (plan : Plan) (suits : IsSuited plan) where
+module _ (plan : ResumePlan) (suits : IsSuited plan) where
   -- no thread goes
   chain-grows : (x : Plain) (fs : List Flown) (y : Plain) → Chain plan x fs y → length x.table.seats ≤ length y.table.seats
   chain-grows x [] y chain = let same = ap (λ (p : Plain). length p.table.seats) chain in omega arith

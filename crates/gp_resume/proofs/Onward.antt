@@ -12,7 +12,7 @@ use Rattle.task_ast.specs.Plain.{Plain, tree_machine, move}
 use Rattle.task_ast.proofs.PlainSteps.{begins_of}
 use Rattle.restart_log.specs.meaning.Lines.{printed, printed_line}
 use Rattle.subthread.specs.Tasks.{program_in}
-use Rattle.gp_resume.specs.declared.course.Plan.{Plan}
+use Rattle.gp_resume.specs.declared.course.ResumePlan.{ResumePlan}
 use Rattle.gp_resume.specs.declared.course.Course.{Course}
 use Rattle.gp_resume.specs.meaning.Resumed.{lines_of}
 use Rattle.gp_resume.specs.inner.Course.{IsSound, IsHome, Stands, Ended}
@@ -54,7 +54,7 @@ firsts-past p zero q past (k, less, is) = absurd (omega arith)
 firsts-past p (suc n) q past (zero, less, is) = absurd (let same = ap (λ pair. pair.0) is in omega arith)
 firsts-past p (suc n) q past (suc k, less, is) = firsts-past (suc p) n q (omega arith) (k, omega arith, is)
 
-module _ (plan : Plan) where
+module _ (plan : ResumePlan) where
   -- where a subthread begins, one more is issued, within the limit
   pub issued-next : (x : Plain) (s : Subthread) (y : Plain)
       → move (program_in plan.work.now) plan.inputs.value plan.limits x ≡ Goes s y → IsSound plan x

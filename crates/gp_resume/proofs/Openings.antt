@@ -27,7 +27,7 @@ use Rattle.record_store.specs.Stored.{state_of, with_thread, without_threads}
 use Rattle.record_store.proofs.SharedOut.{shared_law}
 use Rattle.record_store.proofs.States.{opening_law}
 use Rattle.subthread.specs.Tasks.{machine_of, program_in}
-use Rattle.gp_resume.specs.declared.course.Plan.{Plan}
+use Rattle.gp_resume.specs.declared.course.ResumePlan.{ResumePlan}
 use Rattle.gp_resume.specs.declared.course.Spot.{Spot}
 use Rattle.gp_resume.specs.declared.course.Course.{Course}
 use Rattle.gp_resume.specs.inner.Course.{spot_place, run_in, IsSuited, IsSameRun, AreNumbered, IsHome, IsSound, Stands}
@@ -39,7 +39,7 @@ all-home [] k d l = absurd (omega arith)
 all-home (x ∷ under) zero d l = refl
 all-home (x ∷ under) (suc k) d l = all-home under k d (omega arith)
 
-module _ (plan : Plan) (suits : IsSuited plan) where
+module _ (plan : ResumePlan) (suits : IsSuited plan) where
   abbrev program : Program
   program = program_in plan.work.now
 

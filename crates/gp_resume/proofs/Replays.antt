@@ -20,7 +20,7 @@ use Rattle.task_code.specs.Relation.{Rests}
 use Rattle.record_store.specs.Stored.{state_of, SameShape}
 use Rattle.subthread.specs.Tasks.{program_in, body_from}
 use Rattle.retirement_log.specs.meaning.Rows.{Retirement}
-use Rattle.gp_resume.specs.declared.course.Plan.{Plan}
+use Rattle.gp_resume.specs.declared.course.ResumePlan.{ResumePlan}
 use Rattle.gp_resume.specs.declared.course.Begun.{Begun}
 use Rattle.gp_resume.specs.declared.course.Course.{Course}
 use Rattle.gp_resume.specs.meaning.Fitting.{StandsUnder, left_by}
@@ -51,7 +51,7 @@ effect-said row t u child other threads children = λ i. record {
 }
 
 -- soundness says nothing of the data
-pub sound-for : (plan : Plan) (y : Plain) (state : State) → IsSound plan y → IsSound plan (record y { state = state })
+pub sound-for : (plan : ResumePlan) (y : Plain) (state : State) → IsSound plan y → IsSound plan (record y { state = state })
 sound-for plan y state sound =
     record {
       locks = record {
@@ -66,7 +66,7 @@ sound-for plan y state sound =
       limit = sound.limit;
     }
 
-module _ (plan : Plan) (suits : IsSuited plan) (x : Plain) (s : Subthread) (y : Plain) (begun : Begun) (course : Course)
+module _ (plan : ResumePlan) (suits : IsSuited plan) (x : Plain) (s : Subthread) (y : Plain) (begun : Begun) (course : Course)
     (begins : Begins plan x s y begun course) (row : Retirement) where
   -- where the run stands after the row
   abbrev after_row : Plain

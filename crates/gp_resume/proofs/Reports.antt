@@ -26,7 +26,7 @@ use Rattle.reorder_list.specs.declared.report.Report.{Report}
 use Rattle.restart_log.specs.meaning.Lines.{printed}
 use Rattle.retirement_log.specs.meaning.Rows.{Retirement}
 use Rattle.subthread.specs.Tasks.{program_in}
-use Rattle.gp_resume.specs.declared.course.Plan.{Plan}
+use Rattle.gp_resume.specs.declared.course.ResumePlan.{ResumePlan}
 use Rattle.gp_resume.specs.declared.course.Course.{Course}
 use Rattle.gp_resume.specs.meaning.Fitting.{FitsMove, led_by, replayed, run_after, FitFrom, Fit, resumed_at, least_bytes}
 use Rattle.gp_resume.specs.meaning.Resumed as resumed
@@ -165,7 +165,7 @@ module _ (program : Program) (inputs : Inputs) (limits : Limits) where
 
 -- ---- how the run goes on from them
 
-module _ (plan : Plan) (rows : List Retirement) (fit : Fit (program_in plan.work.now) plan.inputs.value plan.limits rows) where
+module _ (plan : ResumePlan) (rows : List Retirement) (fit : Fit (program_in plan.work.now) plan.inputs.value plan.limits rows) where
   abbrev pub begun_at : Plain
   begun_at = plain_for (program_in plan.work.now) plan.limits (resumed_at (program_in plan.work.now) plan.inputs.value plan.limits rows)
 
@@ -259,7 +259,7 @@ told-answers A program inputs limits bytes (Err stop.WriteFault) told rows is_lo
 told-answers A program inputs limits bytes (Err stop.OutOfMemory) told rows is_log = tt
 
 -- what went on from where the rows of a log leave the run
-module _ (plan : Plan) (log : List ℕ) (logged : Logged) (course : Course) (replays : Replays plan log logged course) where
+module _ (plan : ResumePlan) (log : List ℕ) (logged : Logged) (course : Course) (replays : Replays plan log logged course) where
   -- the bytes that the rows tell of
   pub log-bytes : (n : ℕ) × (logged.bytes ≡ pos n)
   log-bytes =

@@ -12,7 +12,7 @@ use Rattle.task_ast.specs.meaning.Plain.{Subthread}
 use Rattle.task_ast.specs.meaning.Run.{Run, plain_opening, plain_move}
 use Rattle.retirement_log.specs.meaning.Rows.{Retirement, row_text, IsWideRow}
 use Rattle.subthread.specs.Tasks.{program_in}
-use Rattle.gp_resume.specs.declared.course.Plan.{Plan}
+use Rattle.gp_resume.specs.declared.course.ResumePlan.{ResumePlan}
 use Rattle.gp_resume.specs.declared.course.Course.{Course}
 use Rattle.gp_resume.specs.declared.log.Logged.{Logged}
 use Rattle.gp_resume.specs.meaning.Fitting.{least_bytes, FitsMove, replayed, run_after, FitFrom, Fit, resumed_at}
@@ -85,7 +85,7 @@ module _ (program : Program) (inputs : Inputs) (limits : Limits) where
 
 -- ---- the next row
 
-module _ (plan : Plan) (log : List ℕ) where
+module _ (plan : ResumePlan) (log : List ℕ) where
   module _ (rest : List ℕ) (logged : Logged) (course : Course) (replays : HasReplayed plan log rest logged course) where
     -- there are no more rows than bytes
     pub count-within : logged.rows ≤ length log

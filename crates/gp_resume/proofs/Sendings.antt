@@ -8,7 +8,7 @@ use Rattle.record_store.specs.Lent.{marked}
 use Rattle.record_store.specs.Stored.{IsAtHome}
 use Rattle.subthread.specs.declared.task.Task.{Task}
 use Rattle.subthread.specs.Tasks.{Fits}
-use Rattle.gp_resume.specs.declared.course.Plan.{Plan}
+use Rattle.gp_resume.specs.declared.course.ResumePlan.{ResumePlan}
 use Rattle.gp_resume.specs.declared.course.Begun.{Begun}
 use Rattle.gp_resume.specs.declared.course.Course.{Course}
 use Rattle.gp_resume.specs.inner.Course.{IsSuited}
@@ -20,7 +20,7 @@ use Rattle.gp_resume.proofs.Chains.{chain-issued, chain-some}
 use Rattle.gp_resume.proofs.Flights.{joins-numbered, joins-rising, joins-home, joins-task, joins-fits, flight-joined}
 use Rattle.gp_resume.proofs.Onward.{issued-next, firsts-push, firsts-past}
 
-module _ (plan : Plan) (suits : IsSuited plan) (threads : ℕ) (x : Plain) (fs : List Flown) (f : Flown) (course : Course) (begun : Begun)
+module _ (plan : ResumePlan) (suits : IsSuited plan) (threads : ℕ) (x : Plain) (fs : List Flown) (f : Flown) (course : Course) (begun : Begun)
     (is : f.begun ≡ begun) (joins : Joins plan threads x fs f course) where
   pub send-numbered : IsNumbered begun.begins.sync
   send-numbered = subst (λ (b : Begun). IsNumbered b.begins.sync) is (joins-numbered plan suits threads x fs f course joins)
@@ -48,7 +48,7 @@ module _ (plan : Plan) (suits : IsSuited plan) (threads : ℕ) (x : Plain) (fs :
       (e ∙ (λ i. record course { store = record course.store { away = marked (sym is i).held true course.store.away } }))
 
 -- the tasks of those that are out and of one more
-tasks-push : (plan : Plan) (x : Plain) (fs : List Flown) (f : Flown)
+tasks-push : (plan : ResumePlan) (x : Plain) (fs : List Flown) (f : Flown)
     → tasks_of plan x (fs ++ f ∷ []) ≡ tasks_of plan x fs ++ task_from plan.work.now x.state f.begun ∷ []
 tasks-push plan x [] f = refl
 tasks-push plan x (g ∷ fs) f = ap (λ tasks. task_from plan.work.now x.state g.begun ∷ tasks) (tasks-push plan x fs f)
@@ -62,7 +62,7 @@ split (x ∷ xs) ys z (suc k, less, same) = go (split xs ys z (k, omega arith, s
     go (inl (j, inside, is)) = inl (suc j, omega arith, is)
     go (inr has) = inr has
 
-module _ (plan : Plan) (threads : ℕ) (x : Plain) (before posted : List (ℕ × ℕ)) (out : List Task) (course : Course)
+module _ (plan : ResumePlan) (threads : ℕ) (x : Plain) (before posted : List (ℕ × ℕ)) (out : List Task) (course : Course)
     (sent : Sent plan threads x before posted out course) where
   -- one more was sent
   pub sent-more : (f : Flown) (begun : Begun) → f.begun ≡ begun → f.before ≡ sent.later
@@ -121,7 +121,7 @@ module _ (plan : Plan) (threads : ℕ) (x : Plain) (before posted : List (ℕ ×
       omega arith
 
 -- the first was sent
-pub sent-first : (plan : Plan) (x : Plain) (f : Flown) (begun : Begun) → f.begun ≡ begun → f.before ≡ x → f.begun.pos ≡ f.before.table.issued
+pub sent-first : (plan : ResumePlan) (x : Plain) (f : Flown) (begun : Begun) → f.begun ≡ begun → f.before ≡ x → f.begun.pos ≡ f.before.table.issued
     → (before posted : List (ℕ × ℕ)) (before-out out : List Task) (course : Course) (threads : ℕ)
     → Flight plan threads x f.after (f ∷ []) course
     → before-out ≡ [] → out ≡ before-out ++ task_from plan.work.now x.state begun ∷ [] → posted ≡ before ++ (begun.pos, 0) ∷ []

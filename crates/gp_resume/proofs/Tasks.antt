@@ -29,7 +29,7 @@ use Rattle.subthread.specs.declared.task.Task.{Task}
 use Rattle.task_ast.specs.SyncOps.{IsNumbered}
 use Rattle.subthread.specs.Tasks.{program_in, machine_of, place_of, body_from}
 use Rattle.subthread.proofs.HeldLocks.{owned_below, owned_increasing}
-use Rattle.gp_resume.specs.declared.course.Plan.{Plan}
+use Rattle.gp_resume.specs.declared.course.ResumePlan.{ResumePlan}
 use Rattle.gp_resume.specs.declared.course.Spot.{Spot}
 use Rattle.gp_resume.specs.declared.course.Begun.{Begun}
 use Rattle.gp_resume.specs.declared.course.Course.{Course}
@@ -77,7 +77,7 @@ no-fewer None n = omega arith
 no-fewer (Some c) n = omega arith
 
 -- each spot has the number of its thread still, where one is set
-pub numbered-set : (plan : Plan) (spots : List Spot) (at : ℕ) (spot : Spot) → spot.me ≡ at → at < length spots → AreNumbered plan spots
+pub numbered-set : (plan : ResumePlan) (spots : List Spot) (at : ℕ) (spot : Spot) → spot.me ≡ at → at < length spots → AreNumbered plan spots
     → AreNumbered plan (slice_set spots at spot)
 numbered-set plan spots at spot mine less numbered t found there =
     elim (cases_eq t at) [
@@ -88,7 +88,7 @@ numbered-set plan spots at spot mine less numbered t found there =
       | inr differ ↦ numbered t found (sym (get_set_other spots at t spot differ) ∙ there)
     ]
 
-module _ (plan : Plan) (suits : IsSuited plan) (x : Plain) (s : Subthread) (y : Plain) (begun : Begun) (course : Course)
+module _ (plan : ResumePlan) (suits : IsSuited plan) (x : Plain) (s : Subthread) (y : Plain) (begun : Begun) (course : Course)
     (begins : Begins plan x s y begun course) where
   abbrev program : Program
   program = program_in plan.work.now

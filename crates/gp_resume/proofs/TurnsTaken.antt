@@ -33,7 +33,7 @@ use Rattle.record_store.proofs.States.{slot_law}
 use Rattle.token_order.specs.View.{Roomy}
 use Rattle.subthread.specs.declared.task.Work.{Work}
 use Rattle.subthread.specs.Tasks.{machine_of, program_in}
-use Rattle.gp_resume.specs.declared.course.Plan.{Plan}
+use Rattle.gp_resume.specs.declared.course.ResumePlan.{ResumePlan}
 use Rattle.gp_resume.specs.declared.course.Spot.{Spot}
 use Rattle.gp_resume.specs.declared.course.Course.{Course}
 use Rattle.gp_resume.specs.declared.course.Begun.{Begun}
@@ -43,7 +43,7 @@ use Rattle.gp_resume.specs.inner.Turning.{start_with, settled_place, threads_wit
 use Rattle.gp_resume.proofs.Moved.{found, none-needed, Issues, issues, ends, subthread, later, goes, keeps-locks, tables-after, same-limit, one-more, begins-rest, threads-after, t-after, points-count, leads-on}
 
 -- the code of a work follows the tree of its program
-pub follows-code : (plan : Plan) → IsSuited plan
+pub follows-code : (plan : ResumePlan) → IsSuited plan
     → Follows (Rests (program_in plan.work.now)) (tree_machine (program_in plan.work.now) plan.inputs.value plan.limits)
     (machine_of plan.work.now)
 follows-code plan suits =
@@ -201,7 +201,7 @@ new-number work (sync.Fork task arguments) points n t place is l e = elim (cases
 ]
 new-number work _ points n t place is l e = absurd (none-some (sym (get_past points t (omega arith)) ∙ e))
 
-module _ (plan : Plan) where
+module _ (plan : ResumePlan) where
   -- each spot still has the number of its thread
   pub numbered-after : (work : Work) (op : SyncOp) (spots now : List Spot)
       → map spot_place now ≡ points_with (machine_of work) op (length spots) (map spot_place spots)
@@ -230,7 +230,7 @@ settled-is work _ t state place = refl
 
 -- ---- after turns that passed
 
-module _ (plan : Plan) (suits : IsSuited plan) (before now : Course) (kept : KeepsTurning before now) (x : Plain)
+module _ (plan : ResumePlan) (suits : IsSuited plan) (before now : Course) (kept : KeepsTurning before now) (x : Plain)
     (stands : Stands plan x before) where
   abbrev program : Program
   program = program_in plan.work.now

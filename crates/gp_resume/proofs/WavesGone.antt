@@ -9,7 +9,7 @@ use Rattle.restart_log.specs.meaning.Lines.{printed}
 use Rattle.subthread.specs.declared.task.Work.{Work}
 use Rattle.subthread.specs.declared.task.Task.{Task}
 use Rattle.subthread.specs.declared.task.Done.{Done}
-use Rattle.gp_resume.specs.declared.course.Plan.{Plan}
+use Rattle.gp_resume.specs.declared.course.ResumePlan.{ResumePlan}
 use Rattle.gp_resume.specs.declared.course.Begun.{Begun}
 use Rattle.gp_resume.specs.declared.course.Course.{Course}
 use Rattle.gp_resume.specs.meaning.Resumed.{lines_of}
@@ -22,7 +22,7 @@ use Rattle.gp_resume.proofs.Chains.{chain-rest, chain-last, chain-issued}
 use Rattle.gp_resume.proofs.Homings.{Coming, coming, coming-may, coming-then, coming-stops, homing-first, homing-last}
 use Rattle.gp_resume.proofs.Onward.{issued-next, printed-lines}
 
-chain-placed : (plan : Plan) (x0 : Plain) (n : ℕ) (x : Plain) (fs : List Flown) (y : Plain) → n ≡ x.table.issued → Chain plan x fs y
+chain-placed : (plan : ResumePlan) (x0 : Plain) (n : ℕ) (x : Plain) (fs : List Flown) (y : Plain) → n ≡ x.table.issued → Chain plan x fs y
     → ArePlaced n (tasks_of plan x0 fs)
 chain-placed plan x0 n x [] y at chain = tt
 chain-placed plan x0 n x (f ∷ fs) y at chain =
@@ -30,7 +30,7 @@ chain-placed plan x0 n x (f ∷ fs) y at chain =
     let next = (issued-next plan f.before f.subthread f.after chain.1.moves chain.1.sound).0 in
     (chain.1.pos ∙ (here ∙ sym at), chain-placed plan x0 (n + 1) f.after fs y (omega arith) chain.2)
 
-module _ (plan : Plan) (threads : ℕ) (x : Plain) (before posted : List (ℕ × ℕ)) (out : List Task) (course : Course)
+module _ (plan : ResumePlan) (threads : ℕ) (x : Plain) (before posted : List (ℕ × ℕ)) (out : List Task) (course : Course)
     (sent : Sent plan threads x before posted out course) where
   pub wave-placed : (f : Flown) (begun : Begun) → f.begun ≡ begun → f.before ≡ x → f.begun.pos ≡ f.before.table.issued
       → ArePlaced begun.pos out

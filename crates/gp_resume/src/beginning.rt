@@ -11,7 +11,7 @@ ghost use Rattle.record_store.specs.Stored.{with_thread, without_threads};
 ghost use Rattle.subthread.specs.Tasks.{program_in};
 ghost use Rattle.gp_resume.specs.inner.Course.{spot_place, IsSuited, Stands};
 
-use crate::course::{Course, Plan, Spot};
+use crate::course::{Course, ResumePlan, Spot};
 use gp_base::{At, Nums, ThreadNo};
 use record_store::Store;
 use std::alloc::{AllocError, Global};
@@ -30,7 +30,7 @@ pub(crate) fn registers(code: &Code, task: u32) -> u32
 }
 
 // The ring with thread 0 at the start of `main`.
-fn ring_of(alloc: Global, plan: &Plan, cells: &Layout) -> Result<Ring, AllocError>
+fn ring_of(alloc: Global, plan: &ResumePlan, cells: &Layout) -> Result<Ring, AllocError>
     requires suits { IsSuited plan.now }
     requires layout { cells.now ≡ layout (program_in plan.now.work.now).heads }
     ensures { IfOk result (λ ring. ring.table ≡ (opening (program_in plan.now.work.now) plan.now.inputs.value plan.now.limits).table) }
@@ -46,7 +46,12 @@ fn ring_of(alloc: Global, plan: &Plan, cells: &Layout) -> Result<Ring, AllocErro
 }
 
 // The store with the records and the registers of thread 0.
-fn store_of(alloc: Global, plan: &Plan, cells: Layout, records: Nums) -> Result<Store, AllocError>
+fn store_of(
+    alloc: Global,
+    plan: &ResumePlan,
+    cells: Layout,
+    records: Nums,
+) -> Result<Store, AllocError>
     requires suits { IsSuited plan.now }
     requires layout { cells ≡ layout (program_in plan.now.work.now).heads }
     requires records { records ≡ plan.now.inputs.value.records }
@@ -59,7 +64,7 @@ fn store_of(alloc: Global, plan: &Plan, cells: Layout, records: Nums) -> Result<
 }
 
 // Where thread 0 starts.
-fn first_spot(alloc: Global, plan: &Plan) -> Result<Spot, AllocError>
+fn first_spot(alloc: Global, plan: &ResumePlan) -> Result<Spot, AllocError>
     ensures { IfOk result (λ spot. spot_place spot ≡ start_place (program_in plan.now.work.now) (main_number (program_in plan.now.work.now)) 0 []) }
 {
     let code = &plan.work.code;
@@ -73,7 +78,12 @@ fn first_spot(alloc: Global, plan: &Plan) -> Result<Spot, AllocError>
 }
 
 /// No subthread has begun. The error is that memory is out.
-pub fn begin(alloc: Global, plan: &Plan, cells: Layout, records: Nums) -> Result<Course, AllocError>
+pub fn begin(
+    alloc: Global,
+    plan: &ResumePlan,
+    cells: Layout,
+    records: Nums,
+) -> Result<Course, AllocError>
     requires suits { IsSuited plan.now }
     requires layout { cells ≡ layout (program_in plan.now.work.now).heads }
     requires records { records ≡ plan.now.inputs.value.records }

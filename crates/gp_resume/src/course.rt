@@ -31,7 +31,7 @@ pub struct PacedWork<'a> {
 /// What is run: the work that its tasks share, the inputs as they were at its start, and its limits. And how many steps its
 /// subthreads are reckoned to make, by which it is chosen how many go at a time.
 #[derive(Drop)]
-pub struct Plan<'a> {
+pub struct ResumePlan<'a> {
     pub work: &'a Work,
     pub inputs: Snapshot<Inputs>,
     pub limits: Limits,

@@ -19,7 +19,7 @@ ghost use Rattle.gp_resume.specs.inner.Course.{IsSuited, IsBegun, Stands, Begins
 ghost use Rattle.gp_resume.specs.inner.Going.{rest, WentOn, firsts_from, Replays};
 
 use crate::beginning::begin;
-use crate::course::{Course, Opening, PacedWork, Plan, Step};
+use crate::course::{Course, Opening, PacedWork, ResumePlan, Step};
 use crate::log::{Logged, replay_log};
 use crate::stop::ResumeStop;
 use crate::waves::{Leader, go_wave};
@@ -50,7 +50,7 @@ pub fn put<O: Sink>(out: &mut O, bytes: &[u8]) -> Result<(), ResumeStop>
 fn go_on<R: Threads + Sync, C: Crew, O: Sink>(
     rt: &R,
     alloc: Global,
-    plan: &Plan,
+    plan: &ResumePlan,
     course: &mut Course,
     crew: &mut C,
     out: &mut O,
@@ -81,7 +81,7 @@ fn go_on<R: Threads + Sync, C: Crew, O: Sink>(
 // The run as the rows of a log leave it, which is given beside how many they are and how many bytes the text had.
 fn restored(
     alloc: Global,
-    plan: &Plan,
+    plan: &ResumePlan,
     cells: Layout,
     records: Nums,
     log: &Text,
@@ -160,7 +160,7 @@ pub fn resume_paced<R: Threads + Sync, C: Crew, O: Sink>(
         inputs,
         limits,
     } = opening;
-    let plan = Plan {
+    let plan = ResumePlan {
         work,
         inputs: Snapshot::of(&inputs),
         limits,
@@ -178,7 +178,7 @@ pub fn resume_paced<R: Threads + Sync, C: Crew, O: Sink>(
 pub fn resume_drive<R: Threads + Sync, C: Crew, O: Sink>(
     rt: &R,
     alloc: Global,
-    w: &Work,
+    work: &Work,
     layout: Layout,
     inputs: Inputs,
     limits: Limits,
@@ -186,12 +186,12 @@ pub fn resume_drive<R: Threads + Sync, C: Crew, O: Sink>(
     crew: &mut C,
     out: &mut O,
 ) -> Result<(u64, Report), ResumeStop>
-    requires { MayBegin C.ready C.work C.out C.posted w.now (record { layout = layout; inputs = inputs; limits = limits }) log.now crew.old }
-    ensures { DrivesRest (program_in w.now) inputs limits log.now (O.written out.old) (O.written out.new) (O.faults out.old) (O.faults out.new) (C.posted crew.new) result }
+    requires { MayBegin C.ready C.work C.out C.posted work.now (record { layout = layout; inputs = inputs; limits = limits }) log.now crew.old }
+    ensures { DrivesRest (program_in work.now) inputs limits log.now (O.written out.old) (O.written out.new) (O.faults out.old) (O.faults out.new) (C.posted crew.new) result }
 {
-    let mean_steps = MeanSteps::new(alloc, w);
+    let mean_steps = MeanSteps::new(alloc, work);
     let paced = PacedWork {
-        work: w,
+        work,
         mean_steps: &mean_steps,
     };
     let opening = Opening {

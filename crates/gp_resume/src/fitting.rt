@@ -18,7 +18,7 @@ ghost use Rattle.gp_resume.specs.inner.Course.{IsSuited, Begins, IsBegun};
 ghost use Rattle.gp_resume.specs.inner.RowsRead.{row_in, write_in};
 
 use crate::beginning::registers;
-use crate::course::{Begun, Course, Plan};
+use crate::course::{Begun, Course, ResumePlan};
 use crate::row::LogRow;
 use gp_base::{LockNo, Pos};
 use record_store::Summed;
@@ -118,7 +118,7 @@ fn fits_cells(code: &Code, held: &[LockNo], cells: &[(i64, i64)]) -> bool
 /// is that memory is out.
 pub fn fits(
     alloc: Global,
-    plan: &Plan,
+    plan: &ResumePlan,
     course: &Course,
     begun: &Begun,
     least: i64,

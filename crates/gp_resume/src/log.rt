@@ -13,7 +13,7 @@ ghost use Rattle.gp_resume.specs.inner.Going.{Replays};
 ghost use Rattle.gp_resume.specs.inner.RowsRead.{row_in};
 ghost use Rattle.gp_resume.specs.Resuming.{AnswersLog};
 
-use crate::course::{Course, Plan, Step};
+use crate::course::{Course, ResumePlan, Step};
 use crate::fitting::fits;
 use crate::reading::{ends_no_line, row_at};
 use crate::replay::replay;
@@ -37,7 +37,7 @@ const FIRST_LINE: i64 = 7;
 // then of the course, nor where the row doesn't fit.
 fn replay_row(
     alloc: Global,
-    plan: &Plan,
+    plan: &ResumePlan,
     course: &mut Course,
     least: i64,
     row: LogRow,
@@ -63,7 +63,7 @@ fn replay_row(
 /// error, or that memory is out.
 pub fn replay_log(
     alloc: Global,
-    plan: &Plan,
+    plan: &ResumePlan,
     course: &mut Course,
     log: &Text,
 ) -> Result<Logged, ResumeStop>

@@ -15,7 +15,7 @@ ghost use Rattle.gp_resume.specs.inner.Course.{IsSuited, Stands, Begins};
 ghost use Rattle.gp_resume.specs.inner.Replayed.{FitsBegun};
 ghost use Rattle.gp_resume.specs.inner.RowsRead.{row_in, write_in, with_cells};
 
-use crate::course::{Begun, Course, Plan};
+use crate::course::{Begun, Course, ResumePlan};
 use crate::row::LogRow;
 use gp_base::{At, LockNo, Nums, RecNo, Seq, ThreadNo};
 use record_store::{Effect, Store, Summed};
@@ -139,7 +139,7 @@ fn control(alloc: Global, work: &Work, begun: &Begun) -> Result<(Next, At, Nums)
 /// data. The error is that memory is out; nothing is said then of the course.
 pub fn replay(
     alloc: Global,
-    plan: &Plan,
+    plan: &ResumePlan,
     course: &mut Course,
     begun: Begun,
     row: LogRow,

@@ -10,7 +10,7 @@ ghost use Rattle.gp_resume.specs.inner.Flights.{Flown, Flight, StandsPast};
 ghost use Rattle.gp_resume.specs.inner.Waves.{StandsSomewhere, IsFlying, GivesFirst, GivesBeside, IsClosed};
 ghost use Rattle.gp_resume.specs.inner.Turning.{start_with, settled_place, IsIssued};
 
-use crate::course::{Begun, Course, Plan, Spot, Step};
+use crate::course::{Begun, Course, ResumePlan, Spot, Step};
 use gp_base::{At, Pos, ThreadNo};
 use record_store::Store;
 use std::alloc::{AllocError, Global};
@@ -20,7 +20,7 @@ use token_order::Turn;
 // Where the child of a fork starts.
 fn start_of(
     alloc: Global,
-    plan: &Plan,
+    plan: &ResumePlan,
     sync: &SyncOp,
     threads: usize,
 ) -> Result<Option<Spot>, AllocError>
@@ -69,7 +69,7 @@ impl Course {
     fn issue(
         &mut self,
         alloc: Global,
-        plan: &Plan,
+        plan: &ResumePlan,
         thread: ThreadNo,
         begins: Next,
         child: Option<ThreadNo>,
@@ -100,7 +100,7 @@ impl Course {
 
     /// The next subthread, which begins, or the end. The error is that memory is out; nothing is said then of the
     /// course.
-    pub fn next(&mut self, alloc: Global, plan: &Plan) -> Result<Step, AllocError>
+    pub fn next(&mut self, alloc: Global, plan: &ResumePlan) -> Result<Step, AllocError>
         requires suits { IsSuited plan.now }
         requires stands { StandsSomewhere plan.now self.old }
         ensures gives { IfOk result (λ step. (x : Plain) → StandsPast plan.now x self.old → Gives plan.now x step self.new) }
@@ -136,7 +136,7 @@ impl Course {
     pub fn next_beside(
         &mut self,
         alloc: Global,
-        plan: &Plan,
+        plan: &ResumePlan,
         threads: usize,
     ) -> Result<Option<Begun>, AllocError>
         requires suits { IsSuited plan.now }

@@ -20,7 +20,7 @@ ghost use Rattle.gp_base.specs.meaning.Sinks.{AppendsPrefix};
 ghost use Rattle.std.specs.Io.KnownBytes.{Appends};
 ghost use Rattle.restart_log.specs.meaning.Lines.{printed};
 
-use crate::course::{Begun, Course, Plan};
+use crate::course::{Begun, Course, ResumePlan};
 use crate::drive::put;
 use crate::stop::ResumeStop;
 use crew::{Crew, worth};
@@ -100,7 +100,7 @@ fn hand<R: Threads + Sync, C: Crew>(rt: &R, crew: &mut C, task: Task) -> Result<
 fn send<R: Threads + Sync, C: Crew>(
     rt: &R,
     alloc: Global,
-    plan: &Plan,
+    plan: &ResumePlan,
     course: &mut Course,
     crew: &mut C,
     begun: Begun,
@@ -134,7 +134,7 @@ fn are_worth_two(steps: u64, threads: usize) -> bool {
 fn send_beside<R: Threads + Sync, C: Crew>(
     rt: &R,
     alloc: Global,
-    plan: &Plan,
+    plan: &ResumePlan,
     course: &mut Course,
     crew: &mut C,
     threads: usize,
@@ -260,7 +260,7 @@ fn bring<O: Sink>(
 fn go_alone<R: Threads + Sync, C: Crew, O: Sink>(
     rt: &R,
     alloc: Global,
-    _plan: &Plan,
+    _plan: &ResumePlan,
     course: &mut Course,
     crew: &mut C,
     out: &mut O,
@@ -288,7 +288,7 @@ fn go_alone<R: Threads + Sync, C: Crew, O: Sink>(
 // Takes what each run leaves, in order, and writes the lines that it printed.
 fn bring_home<O: Sink>(
     alloc: Global,
-    _plan: &Plan,
+    _plan: &ResumePlan,
     course: &mut Course,
     out: &mut O,
     runs: Vec<Option<Done>>,
@@ -331,7 +331,7 @@ pub struct Leader {
 pub fn go_wave<R: Threads + Sync, C: Crew, O: Sink>(
     rt: &R,
     alloc: Global,
-    plan: &Plan,
+    plan: &ResumePlan,
     course: &mut Course,
     crew: &mut C,
     out: &mut O,

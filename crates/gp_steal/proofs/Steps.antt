@@ -16,7 +16,7 @@ use Rattle.atomic_table.specs.Table.{State, Me, step, keeps, takes, gives, stepp
 use Rattle.atomic_table.proofs.Lists.{set_here, set_else}
 use Rattle.desk_board.specs.declared.view.About.{About}
 use Rattle.gp_steal.specs.Rule.{View, claimed, done, collected, claims, ViewOk, DeskOk, Kept}
-use Rattle.desk_board.specs.declared.view.Plan.{Plan}
+use Rattle.desk_board.specs.declared.view.BoardSetup.{BoardSetup}
 use Rattle.desk_board.specs.declared.view.Slot.{Slot}
 use Rattle.desk_board.specs.declared.view.Slot.TheVariants.{Todo, Done}
 use Rattle.desk_board.specs.Rule.{times, about_of}
@@ -28,7 +28,7 @@ use Rattle.gp_steal.proofs.Hands.{swept_within, swept_words, tried_stays}
 use Rattle.desk_board.proofs.Places.{got, found_set, each_set}
 use Rattle.gp_steal.proofs.Stages.{stage_stays, is_waiting, is_claimed, is_done, past_done, word_low, claimed_at_most, claimed_past}
 
-module _ {J W R : Type 0} (fits : W → J → Type 0) (is_run : W → J → R → Type 0) (plan : Plan J W) where
+module _ {J W R : Type 0} (fits : W → J → Type 0) (is_run : W → J → R → Type 0) (plan : BoardSetup J W) where
   abbrev V : Type 0
   V = View J W
 

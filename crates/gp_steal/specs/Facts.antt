@@ -4,7 +4,7 @@ use mathlib.Core.Option.{some, none}
 use lib.ListN.{get_elem?}
 use Rattle.atomic_table.specs.Table.{State}
 use Rattle.gp_steal.specs.Rule.{View, claims, Kept}
-use Rattle.desk_board.specs.declared.view.Plan.{Plan}
+use Rattle.desk_board.specs.declared.view.BoardSetup.{BoardSetup}
 use Rattle.desk_board.specs.declared.view.Slot.{Slot}
 use Rattle.desk_board.specs.declared.view.Slot.TheVariants.{Todo, Done}
 use Rattle.desk_board.specs.Rule.{times, about_of}
@@ -58,7 +58,7 @@ pub record ViewFacts {J W R : Type 0} (m : ℕ) (s : State (Slot J R) (View J W)
 --   jobs: every view that still counts has the jobs and the With of the board, and each job fits;
 --   still: word 0 is 0; shares: the shares add up to 64; claimed_once: no two views have claimed one desk;
 --   taken: the clerk, and nobody else, has taken exactly the desks whose word is 3, each once
-pub record BoardFacts {J W R : Type 0} (fits : W → J → Type 0) (is_run : W → J → R → Type 0) (plan : Plan J W)
+pub record BoardFacts {J W R : Type 0} (fits : W → J → Type 0) (is_run : W → J → R → Type 0) (plan : BoardSetup J W)
     (s : State (Slot J R) (View J W)) : Type 0 where
   pub jobs : All (fits plan.with.value) plan.jobs.value.items
       × ((i : ℕ) (v : View J W) → IsView s i v → IfSome v.about (λ a. a ≡ about_of plan))
@@ -74,4 +74,4 @@ pub record BoardFacts {J W R : Type 0} (fits : W → J → Type 0) (is_run : W �
 -- the rule gives the facts
 abbrev pub FactsLaw : {J W R : Type 0} → (W → J → Type 0) → (W → J → R → Type 0) → Type 0
 FactsLaw {J} {W} {R} fits is_run =
-    (plan : Plan J W) (s : State (Slot J R) (View J W)) → Kept fits is_run plan s → BoardFacts fits is_run plan s
+    (plan : BoardSetup J W) (s : State (Slot J R) (View J W)) → Kept fits is_run plan s → BoardFacts fits is_run plan s

@@ -10,7 +10,7 @@ use Rattle.desk_board.specs.Rule.{times, no_book, first_book, about_of}
 use Rattle.desk_board.specs.declared.view.About.{About}
 use Rattle.gp_steal.specs.declared.view.Hand.{Hand}
 use Rattle.desk_board.specs.declared.view.SeatView.{SeatView}
-use Rattle.desk_board.specs.declared.view.Plan.{Plan}
+use Rattle.desk_board.specs.declared.view.BoardSetup.{BoardSetup}
 use Rattle.desk_board.specs.declared.view.Slot.{Slot}
 use Rattle.desk_board.specs.declared.view.Slot.TheVariants.{Todo, Done}
 
@@ -39,7 +39,7 @@ module _ {J W : Type 0} where
   blank = record { about = None; hand = no_hand; book = no_book }
 
   -- the first seat has every share, and is the clerk
-  abbrev pub first_view : Plan J W → View J W
+  abbrev pub first_view : BoardSetup J W → View J W
   first_view plan = record { about = Some (about_of plan); hand = first_hand; book = first_book }
 
   -- how often all views together have desk k as claimed, as held and as taken
@@ -88,7 +88,7 @@ module _ {J W R : Type 0} (is_run : W → J → R → Type 0) where
 -- the rule
 --   wide, deep: there is a word and a slot for each desk; still: word 0 is 0; shares: the passes share 64 parts; clerks: there is one
 --   clerk; beyond: nobody has claimed a desk that isn't there
-pub record Kept {J W R : Type 0} (fits : W → J → Type 0) (is_run : W → J → R → Type 0) (plan : Plan J W)
+pub record Kept {J W R : Type 0} (fits : W → J → Type 0) (is_run : W → J → R → Type 0) (plan : BoardSetup J W)
     (s : State (Slot J R) (View J W)) : Type 0 where
   pub all_fit : All (fits plan.with.value) plan.jobs.value.items
   pub few : length plan.jobs.value.items ≤ 65536

@@ -3,15 +3,15 @@ use Rattle.std.proofs.Common.{◌≡◌, ℕ, ◌+◌, Bool, true, false, cond, 
 use Rattle.task_ast.specs.meaning.Tree.{Name}
 use Rattle.task_ast.specs.meaning.Names.{is_name, named}
 use Rattle.task_ast.specs.Layout.{base_of}
-use Rattle.lock_checker.specs.declared.cells.Cells.{Cells}
+use Rattle.lock_checker.specs.declared.cells.CellRange.{CellRange}
 use Rattle.lock_checker.specs.Cells.{cells_of}
 use Rattle.lock_checker.specs.Tables.{cells_from, cells_or_none}
 use Rattle.lock_checker.proofs.BaseLemmas.{option_map-add, option_map-zero}
 
-abbrev first_of : Option Cells → Option ℕ
+abbrev first_of : Option CellRange → Option ℕ
 first_of o = option_map (λ cells. cells.first) o
 
-abbrev size_of : Option Cells → Option ℕ
+abbrev size_of : Option CellRange → Option ℕ
 size_of o = option_map (λ cells. cells.size) o
 
 -- the first cell of an array, where the first of all arrays begins at a cell
@@ -41,7 +41,7 @@ size_is base (array ∷ arrays) x = by (is_name x array.0) (size_is (base + arra
     by true rest = refl
     by false rest = rest
 
-in_parts : (o : Option Cells) → cells_or_none o ≡ record { first = unwrap_or (first_of o) 0; size = unwrap_or (size_of o) 0 }
+in_parts : (o : Option CellRange) → cells_or_none o ≡ record { first = unwrap_or (first_of o) 0; size = unwrap_or (size_of o) 0 }
 in_parts None = refl
 in_parts (Some cells) = refl
 

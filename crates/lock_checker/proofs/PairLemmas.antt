@@ -23,8 +23,8 @@ use Rattle.task_ast.specs.declared.tree.Atom.TheVariants as atom
 use Rattle.task_ast.specs.meaning.Tree.{Name}
 use Rattle.task_ast.specs.meaning.Names.{is_name}
 use Rattle.task_ast.specs.meaning.Held as plain
-use Rattle.lock_checker.specs.declared.pair.Index.{Index}
-use Rattle.lock_checker.specs.declared.pair.Index.TheVariants.{Number, Variable}
+use Rattle.lock_checker.specs.declared.pair.LockIndex.{LockIndex}
+use Rattle.lock_checker.specs.declared.pair.LockIndex.TheVariants.{Number, Variable}
 use Rattle.lock_checker.specs.declared.pair.Pair.{Pair}
 use Rattle.lock_checker.specs.inner.Pairs.{atom_of, pair_of, pairs_of, differ, IsFlipped, Leads}
 use Rattle.std.proofs.lemmas.List.{map-append, take_more}
@@ -37,7 +37,7 @@ use Rattle.lock_checker.specs.contracts.pair.IndexPartialEq.TheImpl as index_eq
 abbrev pub pair_cmp : Pair → Pair → Ordering
 pair_cmp = pair_ord.ghosts.cmp
 
-abbrev pub index_cmp : Index → Index → Ordering
+abbrev pub index_cmp : LockIndex → LockIndex → Ordering
 index_cmp = index_ord.ghosts.cmp
 
 and_turned : (a b : Bool) → (a && b) ≡ (b && a)
@@ -47,14 +47,14 @@ and_turned false true = refl
 and_turned false false = refl
 
 -- indexes that the order cannot tell apart are one atom
-same_index : (i j : Index) → is_eq (index_cmp i j) ≡ plain.same_atom (atom_of i) (atom_of j)
+same_index : (i j : LockIndex) → is_eq (index_cmp i j) ≡ plain.same_atom (atom_of i) (atom_of j)
 same_index (Number v) (Number w) = refl
 same_index (Variable x) (Variable y) = is_eq-slice_cmp x.now y.now
 same_index (Number v) (Variable y) = refl
 same_index (Variable x) (Number w) = refl
 
 -- what `==` answers at a variable
-pub index_eq-told : (x : Bor Name) (i : Index) → index_eq.ghosts.eq (Variable x) i ≡ plain.same_atom (atom.Var x.now) (atom_of i)
+pub index_eq-told : (x : Bor Name) (i : LockIndex) → index_eq.ghosts.eq (Variable x) i ≡ plain.same_atom (atom.Var x.now) (atom_of i)
 index_eq-told x (Number v) = refl
 index_eq-told x (Variable y) = refl
 
@@ -77,7 +77,7 @@ has_told p (k ∷ keys) =
 abbrev pub borrowed : Name → Bor Name
 borrowed x = record { ref_ptr = (0, 0); now = x }
 
-abbrev key_index : Atom → Index
+abbrev key_index : Atom → LockIndex
 key_index (atom.Num v) = Number v
 key_index (atom.Var x) = Variable (borrowed x)
 
@@ -135,7 +135,7 @@ module _ (x : Bor Name) where
       → is_gt (pair_cmp k (key_with a)) ≡ true
   other_after k a other from = by k.index other from
     where
-      by : (i : Index) → plain.same_atom (atom.Var x.now) (atom_of i) ≡ false
+      by : (i : LockIndex) → plain.same_atom (atom.Var x.now) (atom_of i) ≡ false
           → is_gt (ordering_then (index_cmp (Variable x) i) (slice_cmp nat_cmp [] k.array.now)) ≡ false
           → is_gt (ordering_then (index_cmp i (Variable x)) (slice_cmp nat_cmp k.array.now a)) ≡ true
       by (Number v) other from = absurd (true≢false from)

@@ -14,7 +14,7 @@ use task_ast::{Head, natural};
 /// The cells of an array among those of all lock arrays, or of all records: the number of its first cell, and how many
 /// there are.
 #[derive(Clone, Copy)]
-pub struct Cells {
+pub struct CellRange {
     pub first: u32,
     pub size: u32,
 }
@@ -22,7 +22,7 @@ pub struct Cells {
 /// The cells of all lock arrays, or of all records, by the name of the array, and how many they are.
 #[derive(Drop)]
 pub struct Numbering {
-    pub cells: SymbolTable<Cells>,
+    pub cells: SymbolTable<CellRange>,
     pub count: u32,
 }
 
@@ -45,7 +45,7 @@ impl Numbering {
     {
         let size = natural(size) as u32;
         let first = self.count;
-        self.cells.put(name, Cells { first, size })?;
+        self.cells.put(name, CellRange { first, size })?;
         self.count += size;
         Ok(())
     }
@@ -61,12 +61,12 @@ impl Numbering {
     }
 
     /// The cells of the array of a name, or no cells where there is no array.
-    pub fn array(&self, array: &Name) -> Cells
+    pub fn array(&self, array: &Name) -> CellRange
         ensures { result ≡ cells_or_none (found self.now.cells array.now) }
     {
         match self.cells.get(array) {
             Some(cells) => cells,
-            None => Cells { first: 0, size: 0 },
+            None => CellRange { first: 0, size: 0 },
         }
     }
 }

@@ -4,7 +4,7 @@ ghost use Rattle.task_ast.specs.Shaped.{IsAccepted};
 ghost use Rattle.task_ast.specs.View.{plain_program};
 ghost use Rattle.lock_checker.specs.inner.Numberings.{IsNumbered};
 
-use crate::cells::{Cells, Numbering, number_cells};
+use crate::cells::{CellRange, Numbering, number_cells};
 use crate::layout::{cells_by_lock, push_numbers};
 use gp_base::{LockNo, Name, Seq};
 use std::alloc::{AllocError, Global};
@@ -64,7 +64,7 @@ impl Checked {
 
     /// The cells of the lock array of a name; where there is none, it has no cells. Takes no memory.
     #[tactic(auto, using(crate::proofs::CellLemmas::cells_is))]
-    pub fn lock_array(&self, x: &Name) -> Cells
+    pub fn lock_array(&self, x: &Name) -> CellRange
         ensures { result ≡ cells_of (locks_of (program_of self.now).heads) x.now }
     {
         self.locks.array(x)
@@ -72,7 +72,7 @@ impl Checked {
 
     /// The cells of the record of a name; where there is none, it has no cells. Takes no memory.
     #[tactic(auto, using(crate::proofs::CellLemmas::cells_is))]
-    pub fn record_array(&self, x: &Name) -> Cells
+    pub fn record_array(&self, x: &Name) -> CellRange
         ensures { result ≡ cells_of (records_of (program_of self.now).heads) x.now }
     {
         self.records.array(x)

@@ -10,7 +10,7 @@ ghost use Rattle.lock_checker.specs.inner.Indexes.{IsIndexOf};
 ghost use Rattle.lock_checker.specs.inner.Heads.{AreHeads};
 ghost use Rattle.lock_checker.specs.inner.Faults.{lowest};
 
-use crate::index::Index;
+use crate::index::ProgramIndex;
 use crate::symbol_table::SymbolTable;
 use gp_base::Name;
 use gp_base::limits::{MOST_CELLS, MOST_FIELDS, MOST_THREADS};
@@ -50,7 +50,7 @@ fn count_of(head: &Head) -> u64
     }
 }
 
-fn lacks_array(index: &Index, head: &Head) -> bool
+fn lacks_array(index: &ProgramIndex, head: &Head) -> bool
     ensures { (program : PlainProgram) → IsIndexOf index.now program → result ≡ lacks_array program.heads head.now }
 {
     match head {
@@ -61,7 +61,7 @@ fn lacks_array(index: &Index, head: &Head) -> bool
     }
 }
 
-fn sizes_differ(index: &Index, head: &Head) -> bool
+fn sizes_differ(index: &ProgramIndex, head: &Head) -> bool
     ensures { (program : PlainProgram) → IsIndexOf index.now program → result ≡ sizes_differ program.heads head.now }
 {
     match head {
@@ -132,7 +132,7 @@ impl Heads {
     }
 
     /// The lowest rule that fails at a head after these.
-    pub fn rule_at(&self, index: &Index, head: &Head) -> Option<CheckKind>
+    pub fn rule_at(&self, index: &ProgramIndex, head: &Head) -> Option<CheckKind>
         requires locks { self.now.lock_cells ≤ MOST_CELLS }
         requires records { self.now.record_cells ≤ MOST_CELLS }
         ensures { (program : PlainProgram) (before : List PlainHead) → IsIndexOf index.now program → AreHeads self.now before → result ≡ lowest (head_visit (plain_program program) before head.now).fails }

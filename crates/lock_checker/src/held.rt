@@ -4,7 +4,7 @@ ghost use Rattle.std.specs.List.{list_any};
 ghost use Rattle.task_ast.specs.meaning.Held.{has, without, is_index};
 ghost use Rattle.lock_checker.specs.inner.Pairs.{pair_of, pairs_of, pairs_in, IsFlipped, Leads, Moves, TellsAlike};
 
-use crate::pair::{Index, Pair};
+use crate::pair::{LockIndex, Pair};
 use gp_base::Name;
 use std::alloc::{AllocError, Global};
 use std::collections::BTreeSet;
@@ -34,7 +34,7 @@ impl<'a> Pairs<'a> {
     pub fn has_index(&self, x: &'a Name) -> bool
         ensures { result ≡ list_any (is_index x.now) (pairs_in self.now) }
     {
-        let index = Index::Variable(x.as_slice());
+        let index = LockIndex::Variable(x.as_slice());
         let first = Pair { index, array: &[] };
         match self.members.range(first..).next() {
             Some(p) => index == p.index,

@@ -14,7 +14,7 @@ use task_ast::{Head, Program, TaskText, natural};
 /// The sizes of the lock arrays, the lock array of each record, the barriers, the feeds and the tasks; of a name that
 /// is declared twice the first counts.
 #[derive(Drop)]
-pub struct Index<'a> {
+pub struct ProgramIndex<'a> {
     pub locks: SymbolTable<u64>,
     pub arrays: SymbolTable<&'a Name>,
     pub barriers: SymbolTable<()>,
@@ -88,7 +88,7 @@ fn task_table<'a>(
     Ok(table)
 }
 
-pub fn index_of<'a>(alloc: Global, program: &'a Program) -> Result<Index<'a>, AllocError>
+pub fn index_of<'a>(alloc: Global, program: &'a Program) -> Result<ProgramIndex<'a>, AllocError>
     ensures { IfOk result (λ index. IsIndexOf index program.now) }
 {
     let heads = program.heads.as_slice();
@@ -97,7 +97,7 @@ pub fn index_of<'a>(alloc: Global, program: &'a Program) -> Result<Index<'a>, Al
     let barriers = barrier_table(alloc, heads)?;
     let feeds = feed_table(alloc, heads)?;
     let tasks = task_table(alloc, program)?;
-    Ok(Index {
+    Ok(ProgramIndex {
         locks,
         arrays,
         barriers,

@@ -20,7 +20,7 @@ mod tasks;
 mod variables;
 mod walk;
 
-pub use cells::Cells;
+pub use cells::CellRange;
 pub use checked::Checked;
 pub use fault::CheckFault;
 pub use laws::{soundness_laws, walk_law};

@@ -7,7 +7,7 @@ use task_ast::Atom;
 
 /// The index of a lock: a number, or a control variable by its name.
 #[derive(Clone, Copy, PartialEq, Eq, PartialOrd, Ord)]
-pub enum Index<'a> {
+pub enum LockIndex<'a> {
     Number(i64),
     Variable(&'a [u8]),
 }
@@ -15,7 +15,7 @@ pub enum Index<'a> {
 /// An index, and the lock array whose lock it names. Pairs with one index follow one another in the order.
 #[derive(Clone, Copy, PartialEq, Eq, PartialOrd, Ord)]
 pub struct Pair<'a> {
-    pub index: Index<'a>,
+    pub index: LockIndex<'a>,
     pub array: &'a [u8],
 }
 
@@ -24,8 +24,8 @@ impl<'a> Pair<'a> {
         ensures { pair_of result ≡ (array.now, index.now) }
     {
         let index = match index {
-            Atom::Num(v) => Index::Number(*v),
-            Atom::Var(x) => Index::Variable(x.as_slice()),
+            Atom::Num(v) => LockIndex::Number(*v),
+            Atom::Var(x) => LockIndex::Variable(x.as_slice()),
         };
         Pair {
             index,

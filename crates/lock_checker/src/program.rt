@@ -17,7 +17,7 @@ use crate::checked::Checked;
 use crate::fault::CheckFault;
 use crate::heads::{Heads, line_of};
 use crate::held::Pairs;
-use crate::index::{Index, index_of};
+use crate::index::{ProgramIndex, index_of};
 use crate::scope::Scope;
 use crate::symbol_table::SymbolTable;
 use crate::tasks::{check_main, check_tasks};
@@ -29,7 +29,7 @@ use task_ast::{CheckKind, Program, TaskText};
 // Checks the heads, and gives their names.
 fn check_heads(
     alloc: Global,
-    index: &Index,
+    index: &ProgramIndex,
     program: &Program,
 ) -> Result<SymbolTable<()>, CheckFault>
     requires { IsIndexOf index.now program.now }
@@ -66,7 +66,7 @@ fn check_end(line: u32, held: &Pairs) -> Result<(), CheckFault>
 #[tactic(auto, using(crate::proofs::VisitLemmas::inside_told))]
 fn check_body<'a>(
     alloc: Global,
-    index: &Index<'a>,
+    index: &ProgramIndex<'a>,
     program: &'a Program,
     task: &'a TaskText,
 ) -> Result<(), CheckFault>
@@ -89,7 +89,7 @@ fn check_body<'a>(
 
 fn check_bodies<'a>(
     alloc: Global,
-    index: &Index<'a>,
+    index: &ProgramIndex<'a>,
     program: &'a Program,
 ) -> Result<(), CheckFault>
     requires { IsIndexOf index.now program.now }
@@ -108,7 +108,7 @@ fn check_bodies<'a>(
 #[tactic(auto, using(crate::proofs::VisitLemmas::inside_told))]
 fn check_indexed<'a>(
     alloc: Global,
-    index: &Index<'a>,
+    index: &ProgramIndex<'a>,
     program: &'a Program,
 ) -> Result<(), CheckFault>
     requires { IsIndexOf index.now program.now }

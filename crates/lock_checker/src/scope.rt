@@ -7,7 +7,7 @@ ghost use Rattle.task_ast.specs.meaning.Check.{array_over, is_barrier};
 ghost use Rattle.task_ast.specs.View.{plain_task, plain_program};
 ghost use Rattle.lock_checker.specs.inner.Scopes.{scope_of, IsScope};
 
-use crate::index::Index;
+use crate::index::ProgramIndex;
 use crate::variables::Variables;
 use gp_base::Name;
 use task_ast::{Atom, Program, TaskText};
@@ -17,7 +17,7 @@ use task_ast::{Atom, Program, TaskText};
 pub struct Scope<'s, 'a> {
     pub program: &'a Program,
     pub task: &'a TaskText,
-    pub index: &'s Index<'a>,
+    pub index: &'s ProgramIndex<'a>,
     pub variables: &'s Variables,
 }
 

@@ -8,7 +8,7 @@ ghost use Rattle.record_store.specs.Lent.{IsSharedOut};
 ghost use Rattle.record_store.specs.inner.Shelves.{seen, is_away, value_on, cells_on, ArePlaced, new_shelf};
 
 use crate::Summed;
-use crate::shelf::Shelf;
+use crate::shelf::CellShelf;
 use crate::summed::value_at;
 use gp_base::{LockNo, Nums, RecNo, Seq};
 use std::alloc::{AllocError, Global};
@@ -30,13 +30,13 @@ pub fn shelves_of(
     cells: &[i64],
     under: &[Seq<RecNo>],
     is_summed: bool,
-) -> Result<Vec<Shelf>, AllocError>
+) -> Result<Vec<CellShelf>, AllocError>
     ensures { IfOk result (λ shelves. shelves.items ≡ map (new_shelf cells.now) under.now) }
 {
     let mut shelves = Vec::new(alloc);
     for numbers in under {
         let values = copy_cells(alloc, cells, numbers.as_slice())?;
-        shelves.push(Shelf::Home(Summed::made(values, is_summed)))?;
+        shelves.push(CellShelf::Home(Summed::made(values, is_summed)))?;
     }
     Ok(shelves)
 }
@@ -81,19 +81,19 @@ pub fn places_of(
 }
 
 // The value at a place of a shelf that is at home.
-fn value_there(shelves: &[Shelf], lock: LockNo, at: u32) -> i64
+fn value_there(shelves: &[CellShelf], lock: LockNo, at: u32) -> i64
     requires { All (λ away. away ≡ false) (map is_away shelves.now) }
     ensures { result ≡ value_on (map seen shelves.now) (lock, at) }
 {
     match shelves.get(lock.0 as usize) {
         None => 0,
-        Some(Shelf::Home(cells)) => value_at(cells.as_slice(), at as usize),
-        Some(Shelf::Lent(_)) => unreachable!(),
+        Some(CellShelf::Home(cells)) => value_at(cells.as_slice(), at as usize),
+        Some(CellShelf::Lent(_)) => unreachable!(),
     }
 }
 
 /// Fills a list with the values of all cells, whose shelves are at home.
-pub fn fill_cells(room: Nums, shelves: &[Shelf], places: &[(LockNo, u32)]) -> Nums
+pub fn fill_cells(room: Nums, shelves: &[CellShelf], places: &[(LockNo, u32)]) -> Nums
     requires home { All (λ away. away ≡ false) (map is_away shelves.now) }
     requires room { length room ≡ length places.now }
     ensures { result ≡ cells_on (map seen shelves.now) places.now }

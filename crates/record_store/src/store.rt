@@ -15,7 +15,7 @@ ghost use Rattle.record_store.specs.inner.Homing.{CanLend, HaveSizes};
 
 use crate::copies::{copy_lists, copy_shelves};
 use crate::exchange::exchange_threads;
-use crate::shelf::{Shelf, is_home, is_whole, put_in, set_at, take_out};
+use crate::shelf::{CellShelf, is_home, is_whole, put_in, set_at, take_out};
 use crate::stock::{fill_cells, places_of, shelves_of};
 use crate::summed::value_at;
 use crate::{Bundle, Effect, History, Summed};
@@ -40,7 +40,7 @@ struct Standing {
 #[derive(Drop)]
 pub struct Store {
     threads: Vec<Summed>,
-    shelves: Vec<Shelf>,
+    shelves: Vec<CellShelf>,
     standing: Arc<Standing>,
     room: Nums,
 }

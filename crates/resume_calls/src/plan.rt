@@ -12,13 +12,13 @@ use task_code::lower;
 
 /// A run that may begin, beside its program as code: the accepted program, and what the run begins with.
 #[derive(Drop)]
-pub struct Plan {
+pub struct OpenedRun {
     pub checked: Checked,
     pub opening: Opening,
 }
 
 /// The code of a request's program, and the plan of its run. The error is that memory is out.
-pub fn plan_of(alloc: Global, request: Request) -> Result<(Work, Plan), AllocError>
+pub fn plan_of(alloc: Global, request: Request) -> Result<(Work, OpenedRun), AllocError>
     requires { IsSound request.asked (program_in request) request.inputs }
     ensures plan { IfOk result (λ made. IsPlanOf made.0 made.1) }
     ensures checked { IfOk result (λ made. made.1.checked ≡ request.checked) }
@@ -46,6 +46,6 @@ pub fn plan_of(alloc: Global, request: Request) -> Result<(Work, Plan), AllocErr
         inputs,
         limits,
     };
-    let plan = Plan { checked, opening };
+    let plan = OpenedRun { checked, opening };
     Ok((work, plan))
 }

@@ -7,7 +7,7 @@ ghost use Rattle.gp_resume.specs.Starting.{IsUnposted};
 ghost use Rattle.call_cases.specs.meaning.Answers.{change_of};
 ghost use Rattle.resume_calls.specs.inner.Resting.{IsPlanOf, PutsFirst, PutsTail, Resumes};
 
-use crate::plan::Plan;
+use crate::plan::OpenedRun;
 use call_cases::end_status;
 use crew::Crew;
 use gp_base::{Sink, Text};
@@ -51,7 +51,7 @@ pub fn put_rest<R: Threads + Sync, C: Crew, O: Sink>(
     rt: &R,
     alloc: Global,
     paced: PacedWork<'_>,
-    plan: Plan,
+    plan: OpenedRun,
     log: &Text,
     crew: &mut C,
     out: &mut O,
@@ -61,7 +61,7 @@ pub fn put_rest<R: Threads + Sync, C: Crew, O: Sink>(
     requires unposted { IsUnposted C.ready C.work C.out C.posted paced.work.now crew.old }
     ensures { Resumes (plain_program (program_of plan.checked)) plan.opening.inputs plan.opening.limits log.now (change_of O.written O.faults out.old out.new) result }
 {
-    let Plan { checked, opening } = plan;
+    let OpenedRun { checked, opening } = plan;
     match put_first(log, out) {
         Ok(()) => {}
         Err(stop) => return Err(stop),

@@ -9,7 +9,7 @@ ghost use Rattle.call_cases.specs.meaning.Answers.{change_of};
 ghost use Rattle.call_cases.specs.Decided.{IsSound, program_in};
 ghost use Rattle.resume_calls.specs.inner.Resting.{IsPlanOf, Resumes};
 
-use crate::plan::{Plan, plan_of};
+use crate::plan::{OpenedRun, plan_of};
 use crate::rest::put_rest;
 use call_cases::Request;
 use crew::{BatchCrew, MeanSteps, run_wave};
@@ -28,7 +28,7 @@ fn put_by_waves<R: Threads + Sync, O: Sink, G: Gate>(
     rt: &R,
     alloc: Global,
     work: &Work,
-    plan: Plan,
+    plan: OpenedRun,
     log: &Text,
     out: &mut O,
     gate: &G,

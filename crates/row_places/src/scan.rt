@@ -4,7 +4,7 @@ ghost use Rattle.row_places.specs.Places.{is_line_end};
 
 // Where a byte of a file stands.
 #[derive(Clone, Copy, PartialEq, Eq)]
-enum Stand {
+enum ScanState {
     RowStart,
     FieldStart,
     InField,
@@ -20,14 +20,15 @@ pub fn is_line_end(byte: u8) -> bool
 }
 
 // Where the byte after this one stands.
-fn after(stand: Stand, byte: u8) -> Stand {
-    match (stand, byte) {
-        (Stand::InQuotes, b'"') => Stand::QuoteEnd,
-        (Stand::InQuotes, _) => Stand::InQuotes,
-        (Stand::QuoteEnd | Stand::RowStart | Stand::FieldStart, b'"') => Stand::InQuotes,
-        (_, b'\n' | b'\r') => Stand::RowStart,
-        (_, b',') => Stand::FieldStart,
-        _ => Stand::InField,
+fn after(state: ScanState, byte: u8) -> ScanState {
+    match (state, byte) {
+        (ScanState::InQuotes, b'"') => ScanState::QuoteEnd,
+        (ScanState::InQuotes, _) => ScanState::InQuotes,
+        (ScanState::QuoteEnd | ScanState::RowStart | ScanState::FieldStart, b'"') =>
+            ScanState::InQuotes,
+        (_, b'\n' | b'\r') => ScanState::RowStart,
+        (_, b',') => ScanState::FieldStart,
+        _ => ScanState::InField,
     }
 }
 
@@ -44,16 +45,16 @@ fn mark_length(bytes: &[u8]) -> usize
 /// Where the row of this number, from 1, seems to begin.
 pub fn row_start(bytes: &[u8], row: u32) -> Option<usize> {
     let first = mark_length(bytes);
-    let mut stand = Stand::RowStart;
+    let mut state = ScanState::RowStart;
     let mut rows: u32 = 0;
     for at in first..bytes.len() {
-        if stand == Stand::RowStart && !is_line_end(bytes[at]) {
+        if state == ScanState::RowStart && !is_line_end(bytes[at]) {
             rows = rows.saturating_add(1);
             if rows == row {
                 return Some(at);
             }
         }
-        stand = after(stand, bytes[at]);
+        state = after(state, bytes[at]);
     }
     None
 }
@@ -65,11 +66,11 @@ pub fn field_start(line: &[u8], field: usize) -> Option<usize>
     if field == 0 {
         return Some(0);
     }
-    let mut stand = Stand::RowStart;
+    let mut state = ScanState::RowStart;
     let mut passed: usize = 0;
     for at in 0..line.len() {
-        stand = after(stand, line[at]);
-        if stand == Stand::FieldStart {
+        state = after(state, line[at]);
+        if state == ScanState::FieldStart {
             passed = passed.saturating_add(1);
             if passed == field {
                 return Some(at + 1);

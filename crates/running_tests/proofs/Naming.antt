@@ -15,7 +15,7 @@ use Rattle.task_ast.specs.meaning.Action.{OfRegisters, Action, Arm, Set, Load, S
 use Rattle.task_ast.specs.meaning.Body.{Step, Silent, Iteration, Act, Stop, Body, follow, stretch, body}
 use Rattle.task_ast.specs.meaning.Control.{all_of}
 use Rattle.task_ast.specs.laws.Keeps.{NamesOnly, ArmNamesOnly, AllName}
-use Rattle.lock_checker.specs.declared.cells.Cells.{Cells}
+use Rattle.lock_checker.specs.declared.cells.CellRange.{CellRange}
 use Rattle.task_code.specs.Instructions.{Deed, SetReg, Read, Write, Print, When, Deeds, NoDeeds, Also, Does, Assign, GoOn, Unless, Again, Lock, Unlock, Fork, Join, Barrier, Settle, Do, Instr, At, Calc}
 use Rattle.task_code.specs.Reading.{CalcEnv, Place, begin_actions, calc_of_registers, calc_value, cell_of, code_begins, code_body, code_first, code_size, code_step, deed_action, deeds_arm, either, env_of, fork_arguments, gift_action, given_value, goto, halt, index_at, instr_at, instrs_of, next_place, step_does, step_instr, behind, with_child}
 use Rattle.task_code.specs.Flat.{code_of}
@@ -32,7 +32,7 @@ module _ (most : ℕ) (test : ℕ → Bool) (passes : (c : ℕ) → c < most →
   some_is : {A : Type 0} {x y : A} → Some x ≡ Some y → x ≡ y
   some_is is = cc
 
-  cell_low : (cells : Cells) (index : ℤ) (n : ℕ) → IsBelow most cells → cell_of cells index ≡ Some n → test n ≡ true
+  cell_low : (cells : CellRange) (index : ℤ) (n : ℕ) → IsBelow most cells → cell_of cells index ≡ Some n → test n ≡ true
   cell_low cells (negsuc k) n low is = absurd (cc is)
   cell_low cells (pos k) n low is = go (nat_lt k cells.size) refl is
     where

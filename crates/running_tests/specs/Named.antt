@@ -1,6 +1,6 @@
 -- Code that names only record cells below a number.
 use Rattle.std.specs.Prelude.{ℕ, ◌+◌, ◌≤◌, List, [], ◌∷◌, ⊤}
-use Rattle.lock_checker.specs.declared.cells.Cells.{Cells}
+use Rattle.lock_checker.specs.declared.cells.CellRange.{CellRange}
 use Rattle.task_code.specs.Flat.{code_of}
 use Rattle.task_code.specs.Reading.{instrs_of}
 use Rattle.subthread.specs.declared.task.Work.{Work}
@@ -9,7 +9,7 @@ use Rattle.subthread.specs.Tasks.{Fits}
 use Rattle.task_code.specs.Instructions.{Deed, Read, Write, When, Deeds, NoDeeds, Also, Does, Do, Instr, At}
 
 -- the cells of an array have numbers below this one
-abbrev pub IsBelow : (most : ℕ) → Cells → Type 0
+abbrev pub IsBelow : (most : ℕ) → CellRange → Type 0
 IsBelow most cells = cells.first + cells.size ≤ most
 
 abbrev mutual

@@ -4,9 +4,9 @@ ghost use Rattle.task_code.specs.View.{plain_deed, plain_arm, plain_does, plain_
 ghost use Rattle.running_tests.specs.Named.{IsBelow, DeedBelow, ArmBelow, DoesBelow, AllBelow, NamesBelow};
 
 use subthread::Work;
-use task_code::{Cells, Deed, Does, Instr};
+use task_code::{CellRange, Deed, Does, Instr};
 
-fn is_below(most: u64, cells: Cells) -> bool
+fn is_below(most: u64, cells: CellRange) -> bool
     ensures { IsTrue result → IsBelow most cells }
 {
     cells.first as u64 + cells.size as u64 <= most

@@ -27,13 +27,13 @@ posted_counted (Ok x) before after task sum ok err counted most =
 posted_counted (Err x) before after task sum ok err counted most = subst (AreCountedIn sum) (sym err) ((λ e. absurd (true≢false e)), most)
 
 -- the run at the front of those at hand is taken out of what is out
-pub taken_first : (w : Work) (found : Option Done) (before after : List Done) (waits out : List Task)
+pub taken_first : (work : Work) (found : Option Done) (before after : List Done) (waits out : List Task)
     → before ≡ option_to_list found ++ after
-    → map (task_of w) before ++ waits ≡ out → IfSome found (λ run. TakesOut out (task_of w run) (map (task_of w) after ++ waits))
-taken_first w None before after waits out items whole = tt
-taken_first w (Some run) before after waits out items whole = record {
+    → map (task_of work) before ++ waits ≡ out → IfSome found (λ run. TakesOut out (task_of work run) (map (task_of work) after ++ waits))
+taken_first work None before after waits out items whole = tt
+taken_first work (Some run) before after waits out items whole = record {
   earlier = [];
-  later = map (task_of w) after ++ waits;
-  before_is = sym whole ∙ ap (λ l. map (task_of w) l ++ waits) items;
+  later = map (task_of work) after ++ waits;
+  before_is = sym whole ∙ ap (λ l. map (task_of work) l ++ waits) items;
   after_is = refl;
 }

@@ -11,13 +11,13 @@ use Rattle.steal_crew.specs.Counts.{sum_of, sum_of_three}
 
 -- these are the runs of the tasks, in order, and each is counted
 abbrev pub AreCounted : Work → List Task → List Done × (ℕ × ℕ × ℕ) → Type 0
-AreCounted w ts ran = AreRuns w ts ran.0 × (sum_of_three ran.1 ≡ length ts)
+AreCounted work ts ran = AreRuns work ts ran.0 × (sum_of_three ran.1 ≡ length ts)
 
--- a function may be called with all tasks that fit w, and what it gives are their runs, counted
-pub record RunsAll {E : Type 0} (w : Work) (may_call : List Task → Type 0)
+-- a function may be called with all tasks that fit the work, and what it gives are their runs, counted
+pub record RunsAll {E : Type 0} (work : Work) (may_call : List Task → Type 0)
     (may_give : List Task → Result (List Done × (ℕ × ℕ × ℕ)) E → Type 0) : Type 0 where
-  pub callable : (ts : List Task) → All (Fits w) ts → may_call ts
-  pub gives : (ts : List Task) (result : Result (List Done × (ℕ × ℕ × ℕ)) E) → may_give ts result → IfOk result (AreCounted w ts)
+  pub callable : (ts : List Task) → All (Fits work) ts → may_call ts
+  pub gives : (ts : List Task) (result : Result (List Done × (ℕ × ℕ × ℕ)) E) → may_give ts result → IfOk result (AreCounted work ts)
 
 -- Between two calls: the function runs all, what is at hand are runs, and each task that was posted and does not wait is counted,
 -- unless memory ran out; then it may not be.

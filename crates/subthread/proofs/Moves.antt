@@ -18,7 +18,7 @@ use Rattle.task_code.specs.declared.instrs.Deed.{Deed}
 use Rattle.task_code.specs.declared.instrs.Does as code
 use Rattle.task_code.specs.declared.instrs.Does.TheVariants as o
 use Rattle.subthread.specs.declared.ground.Ground.{Ground}
-use Rattle.subthread.specs.declared.ground.Stand.{Stand}
+use Rattle.subthread.specs.declared.ground.Cursor.{Cursor}
 use Rattle.subthread.specs.declared.ground.Went.{Went}
 use Rattle.subthread.specs.declared.ground.Went.TheVariants.{On, Turned, Stopped}
 use Rattle.subthread.specs.declared.task.Work.{Work}
@@ -170,7 +170,7 @@ module _ (ground : Ground) (is_task : IsTask ground) where
       let ran = stopped_ran ground is_task n next p q nothing (after p) (code_stepped (Stopped next) p q here is) in
       record { next_is = ran.next_is; at_is = ran.at_is }
 
-  pub control_smaller : (n : ℕ) (before then : Stand)
+  pub control_smaller : (n : ℕ) (before then : Cursor)
       → Moved (step_from (place_in ground before)) On (place_in ground before) (place_in ground then)
       → n * suc (length ground.instrs.now) + (length ground.instrs.now - then.pc)
       < n * suc (length ground.instrs.now) + (length ground.instrs.now - before.pc)
@@ -183,13 +183,13 @@ module _ (ground : Ground) (is_task : IsTask ground) where
 module _ (work : Work) (ground : Ground) (at : At) (thread : ℕ) (is : IsControlGround work at.task thread ground)
     (begins : SyncOp) (child : Option ℕ) (ctl : List ℤ) where
   -- the place of a run that stands here
-  abbrev place_at : Stand → Place
-  place_at stand = record { at = record { task = at.task; pc = stand.pc }; ctl = stand.ctl; me = thread }
+  abbrev place_at : Cursor → Place
+  place_at cursor = record { at = record { task = at.task; pc = cursor.pc }; ctl = cursor.ctl; me = thread }
 
-  place_is : (stand : Stand) → place_in ground stand ≡ place_at stand
-  place_is stand = λ i. record { at = record { task = is.task_is i; pc = stand.pc }; ctl = stand.ctl; me = is.me i }
+  place_is : (cursor : Cursor) → place_in ground cursor ≡ place_at cursor
+  place_is cursor = λ i. record { at = record { task = is.task_is i; pc = cursor.pc }; ctl = cursor.ctl; me = is.me i }
 
-  module _ (before : Stand) (pc_is : before.pc ≡ at.pc) (ctl_is : before.ctl ≡ ctl) where
+  module _ (before : Cursor) (pc_is : before.pc ≡ at.pc) (ctl_is : before.ctl ≡ ctl) where
     abbrev whole : Body Place
     whole = body_from work begins child (record { at = at; ctl = ctl; me = thread })
 
@@ -197,7 +197,7 @@ module _ (work : Work) (ground : Ground) (at : At) (thread : ℕ) (is : IsContro
     starts = place_is before ∙ (λ i. record { at = record { task = at.task; pc = pc_is i }; ctl = ctl_is i; me = thread })
 
     -- after the synchronisation the body that is left is the whole one
-    body_is : (middle : Stand) → place_in ground middle ≡ code_begins (tasks_in ground) begins child (place_in ground before)
+    body_is : (middle : Cursor) → place_in ground middle ≡ code_begins (tasks_in ground) begins child (place_in ground before)
         → body_in ground work.turns (place_in ground middle) ≡ whole
     body_is middle begun =
         ap (body_in ground work.turns) begun
@@ -205,7 +205,7 @@ module _ (work : Work) (ground : Ground) (at : At) (thread : ℕ) (is : IsContro
         code_body tasks (is.feeds i) work.turns (code_begins tasks begins child (starts i)))
 
     -- so a walk from there goes through the whole body
-    pub whole_led : (middle then : Stand) (next : Next)
+    pub whole_led : (middle then : Cursor) (next : Next)
         → place_in ground middle ≡ code_begins (tasks_in ground) begins child (place_in ground before)
         → Led (body_in ground work.turns (place_in ground middle)) next (place_in ground then) → Led whole next (place_at then)
     whole_led middle then next begun led =

@@ -8,10 +8,10 @@ ghost use Rattle.task_ast.specs.SyncOps.{IsNumbered};
 ghost use Rattle.subthread.specs.Tasks.{with_bundles, under_of};
 ghost use Rattle.subthread.specs.inner.Running.{IsTask, AreAtHand};
 ghost use Rattle.subthread.specs.inner.Leaving.{IsGroundOf, actions_at};
-ghost use Rattle.subthread.specs.inner.Attempts.{stand_at, IsWalk, IsSame, IsSameControl, IsSameData};
+ghost use Rattle.subthread.specs.inner.Attempts.{cursor_at, IsWalk, IsSame, IsSameControl, IsSameData};
 
 use crate::cells::{Change, sum_of};
-use crate::ground::{Doing, Ground, Stand};
+use crate::ground::{Cursor, Doing, Ground};
 use crate::run::{cells_of, walk};
 use crate::{Disturbance, Recheck, Task, Work};
 use gp_base::{Footprint, Lines, Loc, Nums, Seq};
@@ -24,7 +24,7 @@ use task_ast::{Next, SyncOp};
 /// and writes.
 #[derive(Drop)]
 pub struct Walk<'a> {
-    pub stand: Stand,
+    pub cursor: Cursor,
     pub doing: Doing<'a>,
     pub next: Next,
     pub foot: Footprint,
@@ -33,7 +33,7 @@ pub struct Walk<'a> {
 /// What is kept of a walk whose cells were put back.
 #[derive(Drop)]
 pub struct Left {
-    pub stand: Stand,
+    pub cursor: Cursor,
     pub regs: Nums,
     pub child: Nums,
     pub lines: Lines,
@@ -100,7 +100,7 @@ fn same_sync(a: &SyncOp, b: &SyncOp) -> bool
     }
 }
 
-fn same_stand(a: &Stand, b: &Stand) -> bool
+fn same_cursor(a: &Cursor, b: &Cursor) -> bool
     ensures { IsTrue result → a.now ≡ b.now }
 {
     a.pc == b.pc && same_numbers(a.ctl.as_slice(), b.ctl.as_slice())
@@ -124,7 +124,7 @@ fn same_control<'a>(walk: &Walk<'a>, left: &Left) -> bool
     ensures { IsTrue result → IsSameControl walk.now left.now }
 {
     walk.doing.steps == left.steps
-        && same_stand(&walk.stand, &left.stand)
+        && same_cursor(&walk.cursor, &left.cursor)
         && same_next(&walk.next, &left.next)
         && same_foot(&walk.foot, &left.foot)
 }
@@ -154,7 +154,7 @@ fn attempt<'a>(
     requires came { bundles ≡ ground.now.bundles.value }
     requires rising { IsStrictlyIncreasing (map lock_in ground.now.bundles.value) }
     requires sizes { All (λ (b : BundleThere). length b.cells ≡ length (under_lock (under_of work.now) b.lock)) ground.now.bundles.value }
-    requires named { AreAtHand ground.now (actions_at work.now (with_bundles ground.now.bundles.value task.now) (stand_at task.now)) }
+    requires named { AreAtHand ground.now (actions_at work.now (with_bundles ground.now.bundles.value task.now) (cursor_at task.now)) }
     ensures walk { IfOk result (IsWalk work.now (with_bundles ground.now.bundles.value task.now) ground.now) }
     ensures back { IfErr result (λ back. back ≡ ground.now.bundles.value) }
 {
@@ -164,7 +164,7 @@ fn attempt<'a>(
     let Ok(regs) = Seq::from_slice(alloc, task.given.regs.as_slice()) else {
         return Err(bundles);
     };
-    let mut stand = Stand {
+    let mut cursor = Cursor {
         pc: task.at.pc as usize,
         ctl,
     };
@@ -175,11 +175,11 @@ fn attempt<'a>(
         lines: Seq::new(alloc),
         steps: 0,
     };
-    match walk(alloc, work, task, ground, &mut stand, &mut doing) {
+    match walk(alloc, work, task, ground, &mut cursor, &mut doing) {
         Ok((next, foot)) => {
             *steps = steps.saturating_add(doing.steps);
             Ok(Walk {
-                stand,
+                cursor,
                 doing,
                 next,
                 foot,
@@ -225,7 +225,7 @@ fn part<'a>(
     ensures back { IfErr result (λ bundles. bundles ≡ walk.entry.doing.cells.came) }
 {
     let Walk {
-        stand,
+        cursor,
         doing,
         next,
         foot,
@@ -249,7 +249,7 @@ fn part<'a>(
         return Err(bundles);
     }
     let left = Left {
-        stand,
+        cursor,
         regs,
         child,
         lines,
@@ -348,7 +348,7 @@ fn compared<'a>(
     requires came { bundles ≡ ground.now.bundles.value }
     requires rising { IsStrictlyIncreasing (map lock_in ground.now.bundles.value) }
     requires sizes { All (λ (b : BundleThere). length b.cells ≡ length (under_lock (under_of work.now) b.lock)) ground.now.bundles.value }
-    requires named { AreAtHand ground.now (actions_at work.now (with_bundles ground.now.bundles.value task.now) (stand_at task.now)) }
+    requires named { AreAtHand ground.now (actions_at work.now (with_bundles ground.now.bundles.value task.now) (cursor_at task.now)) }
     ensures walk { IfOk result (IsWalk work.now (with_bundles ground.now.bundles.value task.now) ground.now) }
     ensures back { IfErr result (λ back. back ≡ ground.now.bundles.value) }
 {
@@ -404,7 +404,7 @@ pub fn attempts<'a>(
     requires came { bundles ≡ ground.now.bundles.value }
     requires rising { IsStrictlyIncreasing (map lock_in ground.now.bundles.value) }
     requires sizes { All (λ (b : BundleThere). length b.cells ≡ length (under_lock (under_of work.now) b.lock)) ground.now.bundles.value }
-    requires named { AreAtHand ground.now (actions_at work.now (with_bundles ground.now.bundles.value task.now) (stand_at task.now)) }
+    requires named { AreAtHand ground.now (actions_at work.now (with_bundles ground.now.bundles.value task.now) (cursor_at task.now)) }
     ensures walk { IfOk result (IsWalk work.now (with_bundles ground.now.bundles.value task.now) ground.now) }
     ensures back { IfErr result (λ back. back ≡ ground.now.bundles.value) }
 {

@@ -6,7 +6,7 @@ ghost use Rattle.task_code.specs.Reading.{begin_actions, behind, code_begins, co
 ghost use Rattle.task_code.specs.View.{plain_calc, plain_does, plain_forking, plain_gifts, plain_instrs};
 ghost use Rattle.subthread.specs.inner.Running.{env_in, place_in, doing_of, after_all, tasks_in, IsTask, StaysInside, Performs, AllPerform, Begun};
 
-use crate::ground::{Doing, Ground, Stand};
+use crate::ground::{Cursor, Doing, Ground};
 use crate::numbers::{set_number, zeros};
 use crate::values::data_value;
 use crate::walk::fork_values;
@@ -92,14 +92,14 @@ fn begin_data(
     alloc: Global,
     does: &Does,
     ground: &Ground,
-    stand: &Stand,
+    cursor: &Cursor,
     doing: &mut Doing,
 ) -> Result<(), AllocError>
-    ensures made { OnOk result ((line : ℕ) → doing_of doing.new ≡ after_all ground.now (begin_actions ground.now.feeds.now (Some (PlainAt line (plain_does does.now))) (place_in ground.now stand.now)) (doing_of doing.old)) }
+    ensures made { OnOk result ((line : ℕ) → doing_of doing.new ≡ after_all ground.now (begin_actions ground.now.feeds.now (Some (PlainAt line (plain_does does.now))) (place_in ground.now cursor.now)) (doing_of doing.old)) }
     ensures cells { doing.new.cells ≡ doing.old.cells }
 {
     match does {
-        Does::Fork(forking) => make_child(alloc, forking, ground, stand.ctl.as_slice(), doing),
+        Does::Fork(forking) => make_child(alloc, forking, ground, cursor.ctl.as_slice(), doing),
         Does::Join(_, into) => {
             if let Some(k) = into {
                 set_number(&mut doing.regs, *k, ground.joined);
@@ -122,32 +122,32 @@ fn begin_data(
 
 // Stands after the synchronisation at an instruction, which may be a choice as a whole. The number of a fork's child
 // goes into the variable that takes it.
-fn go_behind(does: &Does, ground: &Ground, child: Option<ThreadNo>, stand: &mut Stand)
+fn go_behind(does: &Does, ground: &Ground, child: Option<ThreadNo>, cursor: &mut Cursor)
     requires task { IsTask ground.now }
-    requires inside { StaysInside (plain_does does.now) stand.old.pc }
-    ensures { (line : ℕ) → place_in ground.now stand.new ≡ behind (tasks_in ground.now) (Some (PlainAt line (plain_does does.now))) child (place_in ground.now stand.old) }
+    requires inside { StaysInside (plain_does does.now) cursor.old.pc }
+    ensures { (line : ℕ) → place_in ground.now cursor.new ≡ behind (tasks_in ground.now) (Some (PlainAt line (plain_does does.now))) child (place_in ground.now cursor.old) }
 {
     match does {
         Does::Fork(forking) => {
             if let (Some(c), Some(k)) = (child, forking.into) {
-                set_number(&mut stand.ctl, k, i64::from(c.0));
-                stand.pc += 1;
+                set_number(&mut cursor.ctl, k, i64::from(c.0));
+                cursor.pc += 1;
             } else {
-                stand.pc += 1;
+                cursor.pc += 1;
             }
         }
         Does::Unless(_, n) => {
-            stand.pc = stand.pc + 1 + *n + jump_at(ground, stand.pc + *n);
+            cursor.pc = cursor.pc + 1 + *n + jump_at(ground, cursor.pc + *n);
         }
-        Does::Assign(_, _) => stand.pc += 1,
-        Does::GoOn(_) => stand.pc += 1,
-        Does::Again(_, _) => stand.pc += 1,
-        Does::Lock(_, _) => stand.pc += 1,
-        Does::Unlock(_, _) => stand.pc += 1,
-        Does::Join(_, _) => stand.pc += 1,
-        Does::Barrier(_) => stand.pc += 1,
-        Does::Settle(_, _) => stand.pc += 1,
-        Does::Do(_) => stand.pc += 1,
+        Does::Assign(_, _) => cursor.pc += 1,
+        Does::GoOn(_) => cursor.pc += 1,
+        Does::Again(_, _) => cursor.pc += 1,
+        Does::Lock(_, _) => cursor.pc += 1,
+        Does::Unlock(_, _) => cursor.pc += 1,
+        Does::Join(_, _) => cursor.pc += 1,
+        Does::Barrier(_) => cursor.pc += 1,
+        Does::Settle(_, _) => cursor.pc += 1,
+        Does::Do(_) => cursor.pc += 1,
     }
 }
 
@@ -157,16 +157,16 @@ fn begin_at(
     does: &Does,
     ground: &Ground,
     child: Option<ThreadNo>,
-    stand: &mut Stand,
+    cursor: &mut Cursor,
     doing: &mut Doing,
 ) -> Result<(), AllocError>
     requires task { IsTask ground.now }
-    requires inside { StaysInside (plain_does does.now) stand.old.pc }
-    ensures begun { OnOk result ((line : ℕ) → Begun ground.now (begin_actions ground.now.feeds.now (Some (PlainAt line (plain_does does.now))) (place_in ground.now stand.old)) (behind (tasks_in ground.now) (Some (PlainAt line (plain_does does.now))) child (place_in ground.now stand.old)) (place_in ground.now stand.new) (doing_of doing.old) (doing_of doing.new)) }
+    requires inside { StaysInside (plain_does does.now) cursor.old.pc }
+    ensures begun { OnOk result ((line : ℕ) → Begun ground.now (begin_actions ground.now.feeds.now (Some (PlainAt line (plain_does does.now))) (place_in ground.now cursor.old)) (behind (tasks_in ground.now) (Some (PlainAt line (plain_does does.now))) child (place_in ground.now cursor.old)) (place_in ground.now cursor.new) (doing_of doing.old) (doing_of doing.new)) }
     ensures cells { doing.new.cells ≡ doing.old.cells }
 {
-    begin_data(alloc, does, ground, stand, doing)?;
-    go_behind(does, ground, child, stand);
+    begin_data(alloc, does, ground, cursor, doing)?;
+    go_behind(does, ground, child, cursor);
     Ok(())
 }
 
@@ -178,23 +178,23 @@ pub fn begin(
     begins: &SyncOp,
     ground: &Ground,
     child: Option<ThreadNo>,
-    stand: &mut Stand,
+    cursor: &mut Cursor,
     doing: &mut Doing,
 ) -> Result<(), AllocError>
     requires { IsTask ground.now }
-    ensures begun { OnOk result (Begun ground.now (code_first (tasks_in ground.now) ground.now.feeds.now begins.now (place_in ground.now stand.old)) (code_begins (tasks_in ground.now) begins.now child (place_in ground.now stand.old)) (place_in ground.now stand.new) (doing_of doing.old) (doing_of doing.new)) }
+    ensures begun { OnOk result (Begun ground.now (code_first (tasks_in ground.now) ground.now.feeds.now begins.now (place_in ground.now cursor.old)) (code_begins (tasks_in ground.now) begins.now child (place_in ground.now cursor.old)) (place_in ground.now cursor.new) (doing_of doing.old) (doing_of doing.new)) }
     ensures cells { doing.new.cells ≡ doing.old.cells }
 {
     if begins.is_start() {
         return Ok(());
     }
-    if stand.pc < ground.instrs.len() {
+    if cursor.pc < ground.instrs.len() {
         begin_at(
             alloc,
-            &ground.instrs[stand.pc].does,
+            &ground.instrs[cursor.pc].does,
             ground,
             child,
-            stand,
+            cursor,
             doing,
         )
     } else {
@@ -203,14 +203,14 @@ pub fn begin(
 }
 
 /// Stands after the synchronisation with which a run begins, as `begin` does, and does nothing else.
-pub fn begin_control(begins: &SyncOp, ground: &Ground, child: Option<ThreadNo>, stand: &mut Stand)
+pub fn begin_control(begins: &SyncOp, ground: &Ground, child: Option<ThreadNo>, cursor: &mut Cursor)
     requires { IsTask ground.now }
-    ensures { place_in ground.now stand.new ≡ code_begins (tasks_in ground.now) begins.now child (place_in ground.now stand.old) }
+    ensures { place_in ground.now cursor.new ≡ code_begins (tasks_in ground.now) begins.now child (place_in ground.now cursor.old) }
 {
     if begins.is_start() {
         return;
     }
-    if stand.pc < ground.instrs.len() {
-        go_behind(&ground.instrs[stand.pc].does, ground, child, stand)
+    if cursor.pc < ground.instrs.len() {
+        go_behind(&ground.instrs[cursor.pc].does, ground, child, cursor)
     }
 }

@@ -20,14 +20,14 @@ use std::marker::Model;
 /// The record cells that a run has at hand, which it changes in place, and the value that each cell came with where it
 /// was written. Contracts see the bundles that came, and the cells that were written, each with its last value.
 #[derive(Drop)]
-pub struct Cells<'a> {
+pub struct CellsAtHand<'a> {
     under: &'a [Seq<RecNo>],
     over: &'a [LockNo],
     bundles: Vec<Bundle>,
     olds: BTreeMap<u32, i64>,
 }
 
-impl<'a> Model for Cells<'a> {
+impl<'a> Model for CellsAtHand<'a> {
     ghost use Rattle.record_store.specs.Lent.{put_back, new_write};
     ghost use Rattle.std.specs.Prelude.{map};
     ghost use Rattle.subthread.specs.inner.Hand.{Hand};
@@ -223,18 +223,18 @@ fn damage(
     }
 }
 
-impl<'a> Cells<'a> {
+impl<'a> CellsAtHand<'a> {
     /// The cells of these bundles, of which none was written.
     pub fn new(
         alloc: Global,
         under: &'a [Seq<RecNo>],
         over: &'a [LockNo],
         bundles: Seq<Bundle>,
-    ) -> Cells<'a>
+    ) -> CellsAtHand<'a>
         requires { AreSearchable under.now over.now bundles }
         ensures { result ≡ record { under = under.now; came = bundles; written = [] } }
     {
-        Cells {
+        CellsAtHand {
             under,
             over,
             bundles: bundles.into_vec(),
@@ -285,7 +285,7 @@ impl<'a> Cells<'a> {
         let Ok(olds) = old_values(alloc, &self.olds) else {
             return Err(self.take_back());
         };
-        let Cells {
+        let CellsAtHand {
             under,
             over,
             bundles,
@@ -320,7 +320,7 @@ impl<'a> Cells<'a> {
     pub fn take_back(self) -> Seq<Bundle>
         ensures { result ≡ self.entry.came }
     {
-        let Cells {
+        let CellsAtHand {
             under,
             over,
             bundles,

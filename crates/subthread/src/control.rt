@@ -8,7 +8,7 @@ ghost use Rattle.subthread.specs.inner.Running.{body_in, place_in, IsTask};
 
 use crate::Work;
 use crate::begins::begin_control;
-use crate::ground::{Ground, Stand, Went};
+use crate::ground::{Cursor, Ground, Went};
 use crate::numbers::narrow;
 use crate::walk::{control_at, stop};
 use gp_base::{At, Nums, Seq, ThreadNo};
@@ -38,13 +38,13 @@ fn control_ground<'a>(alloc: Global, work: &'a Work, task: u32, thread: ThreadNo
 }
 
 // One control step, without what a data statement does.
-fn control_step(alloc: Global, ground: &Ground, stand: &mut Stand) -> Result<Went, AllocError>
+fn control_step(alloc: Global, ground: &Ground, cursor: &mut Cursor) -> Result<Went, AllocError>
     requires { IsTask ground.now }
-    ensures { IfOk result (λ went. Moved (step_instr ground.now.feeds.now (slice_get (plain_instrs ground.now.instrs.now) stand.old.pc) (place_in ground.now stand.old)) went (place_in ground.now stand.old) (place_in ground.now stand.new)) }
+    ensures { IfOk result (λ went. Moved (step_instr ground.now.feeds.now (slice_get (plain_instrs ground.now.instrs.now) cursor.old.pc) (place_in ground.now cursor.old)) went (place_in ground.now cursor.old) (place_in ground.now cursor.new)) }
 {
-    if stand.pc < ground.instrs.len() {
-        let instr = &ground.instrs[stand.pc];
-        control_at(alloc, &instr.does, instr.line, ground, stand)
+    if cursor.pc < ground.instrs.len() {
+        let instr = &ground.instrs[cursor.pc];
+        control_at(alloc, &instr.does, instr.line, ground, cursor)
     } else {
         Ok(stop(SyncOp::End, 0))
     }
@@ -55,14 +55,14 @@ fn control_body(
     alloc: Global,
     ground: &Ground,
     turns: u64,
-    stand: &mut Stand,
+    cursor: &mut Cursor,
 ) -> Result<Next, AllocError>
     requires { IsTask ground.now }
-    ensures { IfOk result (λ next. Led (body_in ground.now turns (place_in ground.now stand.old)) next (place_in ground.now stand.new)) }
+    ensures { IfOk result (λ next. Led (body_in ground.now turns (place_in ground.now cursor.old)) next (place_in ground.now cursor.new)) }
 {
     let mut left = turns;
     loop {
-        match control_step(alloc, ground, stand)? {
+        match control_step(alloc, ground, cursor)? {
             Went::On => {}
             Went::Turned(pc) => {
                 if left == 0 {
@@ -72,7 +72,7 @@ fn control_body(
                     });
                 }
                 left -= 1;
-                stand.pc = pc;
+                cursor.pc = pc;
             }
             Went::Stopped(next) => return Ok(next),
         }
@@ -95,12 +95,12 @@ pub fn control_of(
 {
     let ground = control_ground(alloc, work, at.task, thread);
     let ctl = ctl.copied(alloc)?;
-    let mut stand = Stand {
+    let mut cursor = Cursor {
         pc: at.pc as usize,
         ctl,
     };
-    begin_control(&begins.sync, &ground, child, &mut stand);
-    let next = control_body(alloc, &ground, work.turns, &mut stand)?;
-    let pc = narrow(stand.pc)?;
-    Ok((next, At { task: at.task, pc }, stand.ctl))
+    begin_control(&begins.sync, &ground, child, &mut cursor);
+    let next = control_body(alloc, &ground, work.turns, &mut cursor)?;
+    let pc = narrow(cursor.pc)?;
+    Ok((next, At { task: at.task, pc }, cursor.ctl))
 }

@@ -1,7 +1,7 @@
 // What a run reads, and what it changes.
 
 use crate::Recheck;
-use crate::cells::Cells;
+use crate::cells::CellsAtHand;
 use gp_base::{Feed, Lines, Nums, RecNo, Seq, ThreadNo};
 use record_store::Bundle;
 use std::snapshot::Snapshot;
@@ -38,7 +38,7 @@ impl<'a> Ground<'a> {
 
 /// Where a run stands: the number of its next instruction, and its control variables.
 #[derive(Drop)]
-pub struct Stand {
+pub struct Cursor {
     pub pc: usize,
     pub ctl: Nums,
 }
@@ -49,7 +49,7 @@ pub struct Stand {
 pub struct Doing<'a> {
     pub regs: Nums,
     pub child: Nums,
-    pub cells: Cells<'a>,
+    pub cells: CellsAtHand<'a>,
     pub lines: Lines,
     pub steps: u64,
 }

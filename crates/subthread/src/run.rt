@@ -14,10 +14,10 @@ ghost use Rattle.subthread.specs.inner.Leaving.{IsGroundOf, Walked, actions_at, 
 
 use crate::attempts::{Walk, attempts};
 use crate::begins::begin;
-use crate::cells::{Cells, disturb_first};
+use crate::cells::{CellsAtHand, disturb_first};
 use crate::damage::damage;
 use crate::footprints::footprint;
-use crate::ground::{Doing, Ground, Stand};
+use crate::ground::{Cursor, Doing, Ground};
 use crate::names::Names;
 use crate::numbers::narrow;
 use crate::walk::run_body;
@@ -51,7 +51,7 @@ fn ground_of<'a>(work: &'a Work, task: &Task) -> Ground<'a>
 }
 
 /// The cells of the bundles at hand, of which none was written.
-pub fn cells_of<'a>(alloc: Global, work: &'a Work, bundles: Seq<Bundle>) -> Cells<'a>
+pub fn cells_of<'a>(alloc: Global, work: &'a Work, bundles: Seq<Bundle>) -> CellsAtHand<'a>
     requires rising { IsStrictlyIncreasing (map lock_in bundles) }
     requires sizes { All (λ (b : BundleThere). length b.cells ≡ length (under_lock (under_of work.now) b.lock)) bundles }
     ensures { result ≡ record { under = under_of work.now; came = bundles; written = [] } }
@@ -59,7 +59,7 @@ pub fn cells_of<'a>(alloc: Global, work: &'a Work, bundles: Seq<Bundle>) -> Cell
     work.code.facts();
     let under = work.code.layout().under.as_slice();
     let over = work.code.over().as_slice();
-    Cells::new(alloc, under, over, bundles)
+    CellsAtHand::new(alloc, under, over, bundles)
 }
 
 /// Walks from where a task stands to its next synchronisation; the task's bundles are with the cells at hand. Gives
@@ -69,20 +69,20 @@ pub fn walk(
     work: &Work,
     task: &Task,
     ground: &Ground,
-    stand: &mut Stand,
+    cursor: &mut Cursor,
     doing: &mut Doing,
 ) -> Result<(Next, Footprint), AllocError>
     requires numbered { IsNumbered task.now.begins.sync }
     requires is { IsGroundOf work.now (with_bundles ground.now.bundles.value task.now) ground.now }
     requires task { IsTask ground.now }
     requires holds { Holds ground.now doing.old }
-    requires named { AreAtHand ground.now (actions_at work.now (with_bundles ground.now.bundles.value task.now) stand.old) }
-    ensures walked { IfOk result (λ end. Walked work.now (with_bundles ground.now.bundles.value task.now) end stand.old (doing_of doing.old) stand.new (doing_of doing.new)) }
+    requires named { AreAtHand ground.now (actions_at work.now (with_bundles ground.now.bundles.value task.now) cursor.old) }
+    ensures walked { IfOk result (λ end. Walked work.now (with_bundles ground.now.bundles.value task.now) end cursor.old (doing_of doing.old) cursor.new (doing_of doing.new)) }
     ensures holds { Holds ground.now doing.new }
 {
     let mut names = Names::new(alloc);
-    begin(alloc, &task.begins.sync, ground, task.child, stand, doing)?;
-    let next = run_body(alloc, ground, work.turns, stand, doing, &mut names)?;
+    begin(alloc, &task.begins.sync, ground, task.child, cursor, doing)?;
+    let next = run_body(alloc, ground, work.turns, cursor, doing, &mut names)?;
     let foot = footprint(alloc, &task.begins, task.thread, task.child, &names)?;
     Ok((next, foot))
 }
@@ -193,16 +193,16 @@ fn ended(
     alloc: Global,
     recheck: &Recheck,
     task: Task,
-    stand: Stand,
+    cursor: Cursor,
     next: Next,
     foot: Footprint,
     doing: Doing,
 ) -> Result<Done, AllocFailed<Task>>
-    ensures ok { IfOk result (λ done. EndsAs doing.entry.cells.under doing.entry.cells.came task stand next foot (doing_of doing.entry) done) }
+    ensures ok { IfOk result (λ done. EndsAs doing.entry.cells.under doing.entry.cells.came task cursor next foot (doing_of doing.entry) done) }
     ensures back { IfErr result (λ failed. failed.value ≡ with_bundles doing.entry.cells.came task) }
 {
     let mut task = task;
-    let Ok(pc) = narrow(stand.pc) else {
+    let Ok(pc) = narrow(cursor.pc) else {
         task.given.bundles = doing.cells.take_back();
         return Err(AllocFailed { value: task });
     };
@@ -223,7 +223,7 @@ fn ended(
                 effect,
                 next,
                 at,
-                ctl: stand.ctl,
+                ctl: cursor.ctl,
                 foot,
             })
         }
@@ -272,12 +272,12 @@ pub fn run_counted(
     match attempts(alloc, work, &task, &ground, bundles, steps) {
         Ok(walk) => {
             let Walk {
-                stand,
+                cursor,
                 doing,
                 next,
                 foot,
             } = walk;
-            ended(alloc, &work.recheck, task, stand, next, foot, doing)
+            ended(alloc, &work.recheck, task, cursor, next, foot, doing)
         }
         Err(bundles) => {
             task.given.bundles = bundles;

@@ -9,14 +9,14 @@ ghost use Rattle.record_store.specs.declared.given.Bundle.{Bundle as BundleThere
 ghost use Rattle.subthread.specs.Tasks.{under_of};
 
 use crate::Work;
-use crate::cells::Cells;
+use crate::cells::CellsAtHand;
 use crate::run::cells_of;
 use gp_base::{RecNo, Seq};
 use record_store::Bundle;
 use std::alloc::{AllocError, Global};
 
 // Writes cells, in rising order after those that were written before. The error is that memory is out.
-fn write_each(cells: &mut Cells, writes: &[(RecNo, i64)]) -> Result<(), AllocError>
+fn write_each(cells: &mut CellsAtHand, writes: &[(RecNo, i64)]) -> Result<(), AllocError>
     requires rising { IsTrue (is_sorted nat_cmp (cells.old.written ++ writes.now)) }
     requires under { All (λ w. is_under cells.old.under (map lock_in cells.old.came) w.0 ≡ true) writes.now }
     ensures { OnOk result (cells.new ≡ record cells.old { written = cells.old.written ++ writes.now }) }

@@ -7,7 +7,7 @@ ghost use Rattle.subthread.specs.inner.Moving.{Moved};
 ghost use Rattle.subthread.specs.inner.Running.{env_in, place_in, did, body_in, Holds, IsTask, StaysInside, StepIsAtHand, AreAtHand, Stepped, Ran};
 
 use crate::deeds::{fits, perform};
-use crate::ground::{Doing, Ground, Stand, Went};
+use crate::ground::{Cursor, Doing, Ground, Went};
 use crate::names::Names;
 use crate::notes::note;
 use crate::numbers::{is_zero, narrow, set_number};
@@ -68,56 +68,56 @@ pub fn control_at(
     does: &Does,
     line: u32,
     ground: &Ground,
-    stand: &mut Stand,
+    cursor: &mut Cursor,
 ) -> Result<Went, AllocError>
-    requires { StaysInside (plain_does does.now) stand.old.pc }
-    ensures { IfOk result (λ went. Moved (step_does ground.now.feeds.now line (plain_does does.now) (place_in ground.now stand.old)) went (place_in ground.now stand.old) (place_in ground.now stand.new)) }
+    requires { StaysInside (plain_does does.now) cursor.old.pc }
+    ensures { IfOk result (λ went. Moved (step_does ground.now.feeds.now line (plain_does does.now) (place_in ground.now cursor.old)) went (place_in ground.now cursor.old) (place_in ground.now cursor.new)) }
 {
     match does {
-        Does::Assign(k, c) => match control_value(c, ground, stand.ctl.as_slice()) {
+        Does::Assign(k, c) => match control_value(c, ground, cursor.ctl.as_slice()) {
             None => Ok(fault(line)),
             Some(v) => {
-                set_number(&mut stand.ctl, *k, v);
-                stand.pc += 1;
+                set_number(&mut cursor.ctl, *k, v);
+                cursor.pc += 1;
                 Ok(Went::On)
             }
         },
         Does::GoOn(n) => {
-            stand.pc = stand.pc + 1 + *n;
+            cursor.pc = cursor.pc + 1 + *n;
             Ok(Went::On)
         }
-        Does::Unless(c, n) => match control_value(c, ground, stand.ctl.as_slice()) {
+        Does::Unless(c, n) => match control_value(c, ground, cursor.ctl.as_slice()) {
             None => Ok(fault(line)),
             Some(v) => {
                 if is_zero(v) {
-                    stand.pc = stand.pc + 1 + *n;
+                    cursor.pc = cursor.pc + 1 + *n;
                     Ok(Went::On)
                 } else {
-                    stand.pc += 1;
+                    cursor.pc += 1;
                     Ok(Went::On)
                 }
             }
         },
-        Does::Again(c, n) => match control_value(c, ground, stand.ctl.as_slice()) {
+        Does::Again(c, n) => match control_value(c, ground, cursor.ctl.as_slice()) {
             None => Ok(fault(line)),
             Some(v) => {
                 if is_zero(v) {
-                    stand.pc += 1;
+                    cursor.pc += 1;
                     Ok(Went::On)
                 } else {
-                    Ok(Went::Turned(stand.pc - *n))
+                    Ok(Went::Turned(cursor.pc - *n))
                 }
             }
         },
-        Does::Lock(cells, i) => match cell_at(*cells, *i, stand.ctl.as_slice()) {
+        Does::Lock(cells, i) => match cell_at(*cells, *i, cursor.ctl.as_slice()) {
             None => Ok(fault(line)),
             Some(lock) => Ok(stop(SyncOp::Lock(LockNo(narrow(lock)?)), line)),
         },
-        Does::Unlock(cells, i) => match cell_at(*cells, *i, stand.ctl.as_slice()) {
+        Does::Unlock(cells, i) => match cell_at(*cells, *i, cursor.ctl.as_slice()) {
             None => Ok(fault(line)),
             Some(lock) => Ok(stop(SyncOp::Unlock(LockNo(narrow(lock)?)), line)),
         },
-        Does::Fork(forking) => match fork_values(alloc, forking, ground, stand.ctl.as_slice())? {
+        Does::Fork(forking) => match fork_values(alloc, forking, ground, cursor.ctl.as_slice())? {
             None => Ok(fault(line)),
             Some(args) => Ok(stop(
                 SyncOp::Fork {
@@ -127,7 +127,7 @@ pub fn control_at(
                 line,
             )),
         },
-        Does::Join(c, _) => match control_value(c, ground, stand.ctl.as_slice()) {
+        Does::Join(c, _) => match control_value(c, ground, cursor.ctl.as_slice()) {
             None => Ok(fault(line)),
             Some(thread) => Ok(stop(SyncOp::Join(thread), line)),
         },
@@ -140,8 +140,8 @@ pub fn control_at(
             line,
         )),
         Does::Do(deed) => {
-            if fits(deed, ground, stand.ctl.as_slice()) {
-                stand.pc += 1;
+            if fits(deed, ground, cursor.ctl.as_slice()) {
+                cursor.pc += 1;
                 Ok(Went::On)
             } else {
                 Ok(fault(line))
@@ -156,28 +156,28 @@ fn step_at(
     does: &Does,
     line: u32,
     ground: &Ground,
-    stand: &mut Stand,
+    cursor: &mut Cursor,
     doing: &mut Doing,
     names: &mut Names,
 ) -> Result<Went, AllocError>
     requires cells { Holds ground.now doing.old }
-    requires inside { StaysInside (plain_does does.now) stand.old.pc }
-    requires named { StepIsAtHand ground.now (step_does ground.now.feeds.now line (plain_does does.now) (place_in ground.now stand.old)) }
-    ensures steps { IfOk result (λ went. Stepped ground.now (step_does ground.now.feeds.now line (plain_does does.now) (place_in ground.now stand.old)) went (place_in ground.now stand.old) (place_in ground.now stand.new) (did doing.old names.old) (did doing.new names.new)) }
+    requires inside { StaysInside (plain_does does.now) cursor.old.pc }
+    requires named { StepIsAtHand ground.now (step_does ground.now.feeds.now line (plain_does does.now) (place_in ground.now cursor.old)) }
+    ensures steps { IfOk result (λ went. Stepped ground.now (step_does ground.now.feeds.now line (plain_does does.now) (place_in ground.now cursor.old)) went (place_in ground.now cursor.old) (place_in ground.now cursor.new) (did doing.old names.old) (did doing.new names.new)) }
     ensures holds { Holds ground.now doing.new }
 {
     match does {
         Does::Do(deed) => {
-            if fits(deed, ground, stand.ctl.as_slice()) {
-                note(deed, ground, stand.ctl.as_slice(), names)?;
-                perform(alloc, deed, ground, stand.ctl.as_slice(), doing)?;
-                stand.pc += 1;
+            if fits(deed, ground, cursor.ctl.as_slice()) {
+                note(deed, ground, cursor.ctl.as_slice(), names)?;
+                perform(alloc, deed, ground, cursor.ctl.as_slice(), doing)?;
+                cursor.pc += 1;
                 Ok(Went::On)
             } else {
                 Ok(fault(line))
             }
         }
-        _ => control_at(alloc, does, line, ground, stand),
+        _ => control_at(alloc, does, line, ground, cursor),
     }
 }
 
@@ -185,20 +185,20 @@ fn step_at(
 fn step(
     alloc: Global,
     ground: &Ground,
-    stand: &mut Stand,
+    cursor: &mut Cursor,
     doing: &mut Doing,
     names: &mut Names,
 ) -> Result<Went, AllocError>
     requires cells { Holds ground.now doing.old }
     requires task { IsTask ground.now }
-    requires named { StepIsAtHand ground.now (step_instr ground.now.feeds.now (slice_get (plain_instrs ground.now.instrs.now) stand.old.pc) (place_in ground.now stand.old)) }
-    ensures steps { IfOk result (λ went. Stepped ground.now (step_instr ground.now.feeds.now (slice_get (plain_instrs ground.now.instrs.now) stand.old.pc) (place_in ground.now stand.old)) went (place_in ground.now stand.old) (place_in ground.now stand.new) (did doing.old names.old) (did doing.new names.new)) }
+    requires named { StepIsAtHand ground.now (step_instr ground.now.feeds.now (slice_get (plain_instrs ground.now.instrs.now) cursor.old.pc) (place_in ground.now cursor.old)) }
+    ensures steps { IfOk result (λ went. Stepped ground.now (step_instr ground.now.feeds.now (slice_get (plain_instrs ground.now.instrs.now) cursor.old.pc) (place_in ground.now cursor.old)) went (place_in ground.now cursor.old) (place_in ground.now cursor.new) (did doing.old names.old) (did doing.new names.new)) }
     ensures holds { Holds ground.now doing.new }
 {
     doing.steps = doing.steps.saturating_add(1);
-    if stand.pc < ground.instrs.len() {
-        let instr = &ground.instrs[stand.pc];
-        step_at(alloc, &instr.does, instr.line, ground, stand, doing, names)
+    if cursor.pc < ground.instrs.len() {
+        let instr = &ground.instrs[cursor.pc];
+        step_at(alloc, &instr.does, instr.line, ground, cursor, doing, names)
     } else {
         Ok(stop(SyncOp::End, 0))
     }
@@ -209,19 +209,19 @@ pub fn run_body(
     alloc: Global,
     ground: &Ground,
     turns: u64,
-    stand: &mut Stand,
+    cursor: &mut Cursor,
     doing: &mut Doing,
     names: &mut Names,
 ) -> Result<Next, AllocError>
     requires cells { Holds ground.now doing.old }
     requires task { IsTask ground.now }
-    requires named { AreAtHand ground.now (body_in ground.now turns (place_in ground.now stand.old)).actions }
-    ensures ran { IfOk result (λ next. Ran ground.now (body_in ground.now turns (place_in ground.now stand.old)) next (place_in ground.now stand.new) (did doing.old names.old) (did doing.new names.new)) }
+    requires named { AreAtHand ground.now (body_in ground.now turns (place_in ground.now cursor.old)).actions }
+    ensures ran { IfOk result (λ next. Ran ground.now (body_in ground.now turns (place_in ground.now cursor.old)) next (place_in ground.now cursor.new) (did doing.old names.old) (did doing.new names.new)) }
     ensures holds { Holds ground.now doing.new }
 {
     let mut left = turns;
     loop {
-        match step(alloc, ground, stand, doing, names)? {
+        match step(alloc, ground, cursor, doing, names)? {
             Went::On => {}
             Went::Turned(pc) => {
                 if left == 0 {
@@ -231,7 +231,7 @@ pub fn run_body(
                     });
                 }
                 left -= 1;
-                stand.pc = pc;
+                cursor.pc = pc;
             }
             Went::Stopped(next) => return Ok(next),
         }

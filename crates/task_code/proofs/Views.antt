@@ -3,8 +3,8 @@ use Rattle.std.proofs.Common.{◌≡◌, ℕ, ℤ, List, Box, Global, ap, sym, �
 use Rattle.task_ast.specs.declared.tree.Op.{Op}
 use Rattle.task_code.specs.Instructions as plain
 use Rattle.task_code.specs.View.{calc_of, plain_calc, plain_operands, plain_calcs, deed_of, plain_deed, plain_arm}
-use Rattle.lock_checker.specs.declared.cells.Cells.{Cells}
-use Rattle.task_code.specs.declared.instrs.Index.{Index}
+use Rattle.lock_checker.specs.declared.cells.CellRange.{CellRange}
+use Rattle.task_code.specs.declared.instrs.CellIndex.{CellIndex}
 use Rattle.task_code.specs.declared.instrs.Calc.{Calc}
 use Rattle.task_code.specs.declared.instrs.Calc.TheOpen as c
 use Rattle.task_code.specs.declared.instrs.Calc.TheVariants.{Const, Ctl, Reg, Me, Rows, NoValue, rolls-Const, rolls-Ctl, rolls-Reg, rolls-Me, rolls-Rows, rolls-Cell, rolls-Neg, rolls-Not, rolls-Chain, rolls-NoValue}
@@ -59,10 +59,10 @@ deed_level level = fold-roll-Deed plain.Deed deed_of level
 pub deed_SetReg : (k : ℕ) (c : Calc) → plain_deed (SetReg k c) ≡ plain.SetReg k (plain_calc c)
 deed_SetReg k c = ap plain_deed (sym (rolls-SetReg k c)) ∙ deed_level (d.SetReg k c)
 
-pub deed_Read : (cells : Cells) (i : Index) (k : ℕ) → plain_deed (Read cells i k) ≡ plain.Read cells i k
+pub deed_Read : (cells : CellRange) (i : CellIndex) (k : ℕ) → plain_deed (Read cells i k) ≡ plain.Read cells i k
 deed_Read cells i k = ap plain_deed (sym (rolls-Read cells i k)) ∙ deed_level (d.Read cells i k)
 
-pub deed_Write : (cells : Cells) (i : Index) (c : Calc) → plain_deed (Write cells i c) ≡ plain.Write cells i (plain_calc c)
+pub deed_Write : (cells : CellRange) (i : CellIndex) (c : Calc) → plain_deed (Write cells i c) ≡ plain.Write cells i (plain_calc c)
 deed_Write cells i c = ap plain_deed (sym (rolls-Write cells i c)) ∙ deed_level (d.Write cells i c)
 
 pub deed_Print : (cs : List Calc) → plain_deed (Print cs) ≡ plain.Print (plain_calcs cs)

@@ -2,8 +2,8 @@
 use Rattle.std.specs.Prelude.{◌≡◌, ⊤, ℕ, ◌<◌, List, [], ◌∷◌, Option, Some, None, slice_get, length}
 use Rattle.task_ast.specs.meaning.Tree.{TaskText}
 use Rattle.task_ast.specs.meaning.Names.{controls, controls_of, registers_of}
-use Rattle.task_code.specs.declared.instrs.Index.{Index}
-use Rattle.task_code.specs.declared.instrs.Index.TheVariants.{Number, Variable}
+use Rattle.task_code.specs.declared.instrs.CellIndex.{CellIndex}
+use Rattle.task_code.specs.declared.instrs.CellIndex.TheVariants.{Number, Variable}
 use Rattle.task_code.specs.declared.instrs.Shape.{Shape}
 use Rattle.task_code.specs.Instructions.{Calc, Const, Ctl, Reg, Me, Rows, Cell, Neg, Not, Chain, NoValue, Operands, NoOperands, Operand, Deed, SetReg, Read, Write, Print, When, Deeds, NoDeeds, Also, Does, Assign, GoOn, Unless, Again, Lock, Unlock, Fork, Join, Barrier, Settle, Do, Instr, At}
 
@@ -48,7 +48,7 @@ module _ (shape : Shape) where
   GiftsExist registers [] = ⊤
   GiftsExist registers (g ∷ gifts) = (g.0 < registers) × CalcExists g.1 × GiftsExist registers gifts
 
-  abbrev pub IndexExists : Index → Type 0
+  abbrev pub IndexExists : CellIndex → Type 0
   IndexExists (Number v) = ⊤
   IndexExists (Variable k) = k < shape.ctl
 

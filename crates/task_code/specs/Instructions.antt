@@ -2,8 +2,8 @@
 use Rattle.std.specs.Prelude.{ℕ, ℤ, List, [], ◌∷◌, Option}
 use Rattle.task_ast.specs.declared.tree.Op.{Op}
 use Rattle.task_ast.specs.meaning.Tree.{Program}
-use Rattle.lock_checker.specs.declared.cells.Cells.{Cells}
-use Rattle.task_code.specs.declared.instrs.Index.{Index}
+use Rattle.lock_checker.specs.declared.cells.CellRange.{CellRange}
+use Rattle.task_code.specs.declared.instrs.CellIndex.{CellIndex}
 
 mutual
   -- an expression over numbered variables and feeds
@@ -28,8 +28,8 @@ mutual
   -- what a data statement does
   pub data Deed : Type 0 where
     SetReg : (register : ℕ) → Calc → Deed
-    Read : Cells → Index → (register : ℕ) → Deed
-    Write : Cells → Index → Calc → Deed
+    Read : CellRange → CellIndex → (register : ℕ) → Deed
+    Write : CellRange → CellIndex → Calc → Deed
     Print : List Calc → Deed
     When : Calc → Deeds → Deeds → Deed
 
@@ -52,8 +52,8 @@ pub data Does : Type 0 where
   GoOn : ℕ → Does
   Unless : Calc → ℕ → Does
   Again : Calc → ℕ → Does
-  Lock : Cells → Index → Does
-  Unlock : Cells → Index → Does
+  Lock : CellRange → CellIndex → Does
+  Unlock : CellRange → CellIndex → Does
   Fork : Forking → Does
   Join : Calc → (into : Option ℕ) → Does
   Barrier : ℕ → Does

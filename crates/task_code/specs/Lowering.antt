@@ -8,8 +8,8 @@ use Rattle.task_ast.specs.meaning.Tree as tree
 use Rattle.task_ast.specs.meaning.Tree.{Name, Expr, Links, What, Stmt, Block, TaskText, Program}
 use Rattle.task_ast.specs.meaning.Names.{is_name, slot, locks_of, records_of, barriers_of, feeds_of, controls_of, registers_of, task_named, task_number}
 use Rattle.lock_checker.specs.Cells.{cells_of}
-use Rattle.task_code.specs.declared.instrs.Index.{Index}
-use Rattle.task_code.specs.declared.instrs.Index.TheVariants.{Number, Variable}
+use Rattle.task_code.specs.declared.instrs.CellIndex.{CellIndex}
+use Rattle.task_code.specs.declared.instrs.CellIndex.TheVariants.{Number, Variable}
 use Rattle.task_code.specs.Instructions.{Calc, Const, Ctl, Reg, Me, Rows, Cell, Neg, Not, Chain, NoValue, Operands, NoOperands, Operand, Deed, SetReg, Read, Write, Print, When, Deeds, NoDeeds, Also, Forking, Does, Assign, GoOn, Unless, Again, Lock, Unlock, Fork, Join, Barrier, Settle, Do, Instr, At, Lowered}
 
 -- the register of this number, or 0 where there is none
@@ -71,7 +71,7 @@ module _ (s : Scope) where
   abbrev pub calcs : List Expr → List Calc
   calcs es = map calc es
 
-  abbrev pub index : Atom → Index
+  abbrev pub index : Atom → CellIndex
   index (atom.Num v) = Number v
   index (atom.Var x) = Variable (slot s.controls x)
 

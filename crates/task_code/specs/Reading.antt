@@ -16,9 +16,9 @@ use Rattle.task_ast.specs.meaning.Body.{Step, Silent, Iteration, Act, Stop, Body
 use Rattle.task_ast.specs.meaning.Control.{all_of}
 use Rattle.task_ast.specs.meaning.Plain.{task_at, start_point}
 use Rattle.task_ast.specs.Plain.{Machine}
-use Rattle.lock_checker.specs.declared.cells.Cells.{Cells}
-use Rattle.task_code.specs.declared.instrs.Index.{Index}
-use Rattle.task_code.specs.declared.instrs.Index.TheVariants.{Number, Variable}
+use Rattle.lock_checker.specs.declared.cells.CellRange.{CellRange}
+use Rattle.task_code.specs.declared.instrs.CellIndex.{CellIndex}
+use Rattle.task_code.specs.declared.instrs.CellIndex.TheVariants.{Number, Variable}
 use Rattle.task_code.specs.Instructions.{Calc, Const, Ctl, Reg, Me, Rows, Cell, Neg, Not, Chain, NoValue, Operands, NoOperands, Operand, Deed, SetReg, Read, Write, Print, When, Deeds, NoDeeds, Also, Forking, Does, Assign, GoOn, Unless, Again, Lock, Unlock, Fork, Join, Barrier, Settle, Do, Instr, At, Lowered}
 
 -- what an expression of code is read under: the control variables, the registers, the thread's number, the feeds in declared order
@@ -53,12 +53,12 @@ abbrev pub calc_of_registers : Calc → CalcEnv → Option OfRegisters
 calc_of_registers c env = option_map (λ _ values. unwrap_or (calc_value c (record env { registers = values })) (pos 0)) (calc_value c env)
 
 -- the number that an index stands for
-abbrev pub index_at : Index → List ℤ → ℤ
+abbrev pub index_at : CellIndex → List ℤ → ℤ
 index_at (Number v) ctl = v
 index_at (Variable k) ctl = number_at ctl k
 
 -- the number of an array's cell, or none outside the array
-abbrev pub cell_of : Cells → ℤ → Option ℕ
+abbrev pub cell_of : CellRange → ℤ → Option ℕ
 cell_of cells index = option_map (λ n. cells.first + n) (place cells.size index)
 
 abbrev mutual

@@ -1,12 +1,12 @@
 // Instructions, and what they compute with.
 
 use gp_base::Seq;
-use lock_checker::Cells;
+use lock_checker::CellRange;
 use task_ast::Op;
 
 /// The index of a lock cell or of a record cell: a number, or the number of a control variable.
 #[derive(Clone, Copy)]
-pub enum Index {
+pub enum CellIndex {
     Number(i64),
     Variable(usize),
 }
@@ -32,8 +32,8 @@ pub enum Calc {
 #[derive(Drop)]
 pub enum Deed {
     SetReg(usize, Calc),
-    Read(Cells, Index, usize),
-    Write(Cells, Index, Calc),
+    Read(CellRange, CellIndex, usize),
+    Write(CellRange, CellIndex, Calc),
     Print(Seq<Calc>),
     When(Calc, Seq<Deed>, Seq<Deed>),
 }
@@ -58,8 +58,8 @@ pub enum Does {
     GoOn(usize),
     Unless(Calc, usize),
     Again(Calc, usize),
-    Lock(Cells, Index),
-    Unlock(Cells, Index),
+    Lock(CellRange, CellIndex),
+    Unlock(CellRange, CellIndex),
     Fork(Forking),
     Join(Calc, Option<usize>),
     Barrier(u32),

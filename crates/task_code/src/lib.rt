@@ -14,6 +14,6 @@ mod tables;
 mod variables;
 
 pub use code::Code;
-pub use instrs::{Calc, Deed, Does, Forking, Index, Instr, Shape};
-pub use lock_checker::Cells;
+pub use instrs::{Calc, CellIndex, Deed, Does, Forking, Instr, Shape};
+pub use lock_checker::CellRange;
 pub use lowering::lower;

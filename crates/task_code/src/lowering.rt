@@ -20,7 +20,7 @@ use crate::code::Code;
 use crate::control::{lower_block, small};
 use crate::instrs::{Instr, Shape};
 use crate::parts::Parts;
-use crate::scope::{Index, Scope, index_of};
+use crate::scope::{CodeIndex, Scope, index_of};
 use crate::variables::{all_params, control_names};
 use gp_base::{Name, Seq};
 use lock_checker::Checked;
@@ -32,7 +32,7 @@ use task_ast::{Head, Program, TaskText, natural};
 fn lower_task(
     alloc: Global,
     checked: &Checked,
-    index: &Index,
+    index: &CodeIndex,
     task: &TaskText,
     registers: &[Name],
 ) -> Result<(Seq<Instr>, Shape), AllocError>
@@ -63,7 +63,7 @@ fn lower_task(
 fn lower_tasks(
     alloc: Global,
     checked: &Checked,
-    index: &Index,
+    index: &CodeIndex,
 ) -> Result<(Seq<Seq<Instr>>, Seq<Shape>), AllocError>
     requires { IsIndexOf index.now (plain_program (program_of checked.now)) }
     ensures { IfOk result (λ r. AreTasksOf (plain_program (program_of checked.now)) (program_of checked.now).tasks r.0 r.1) }
@@ -80,7 +80,7 @@ fn lower_tasks(
 }
 
 // The number of the task `main`, or 0 where there is none.
-fn main_number(alloc: Global, index: &Index) -> Result<u32, AllocError>
+fn main_number(alloc: Global, index: &CodeIndex) -> Result<u32, AllocError>
     ensures { IfOk result (λ n. (program : plain.Program) → IsIndexOf index.now program → n ≡ main_number program) }
 {
     let main = Name::from_slice(alloc, b"main")?;

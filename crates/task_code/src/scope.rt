@@ -7,17 +7,17 @@ ghost use Rattle.lock_checker.specs.Cells.{cells_of};
 ghost use Rattle.task_code.specs.Lowering.{index};
 ghost use Rattle.task_code.specs.inner.Scopes.{scope_here, IsIndexOf, IsScope};
 
-use crate::instrs::Index as CellIndex;
+use crate::instrs::CellIndex;
 use crate::tables::{barrier_names, feed_names, places, task_names};
 use crate::variables::{place, register_names, slot};
 use gp_base::{Name, Seq};
-use lock_checker::{Cells, Checked, SymbolTable};
+use lock_checker::{CellRange, Checked, SymbolTable};
 use std::alloc::{AllocError, Global};
 use task_ast::{Atom, Program, TaskText};
 
 /// The places of the barriers, the feeds and the tasks, by name, and the names of each task's registers.
 #[derive(Drop)]
-pub struct Index {
+pub struct CodeIndex {
     pub barriers: SymbolTable<usize>,
     pub feeds: SymbolTable<usize>,
     pub tasks: SymbolTable<usize>,
@@ -28,7 +28,7 @@ pub struct Index {
 #[derive(Clone, Copy)]
 pub struct Scope<'s> {
     pub checked: &'s Checked,
-    pub index: &'s Index,
+    pub index: &'s CodeIndex,
     pub controls: &'s [Name],
     pub registers: &'s [Name],
 }
@@ -45,7 +45,7 @@ fn all_registers(alloc: Global, tasks: &[TaskText]) -> Result<Vec<Seq<Name>>, Al
 }
 
 /// The index of a program.
-pub fn index_of(alloc: Global, program: &Program) -> Result<Index, AllocError>
+pub fn index_of(alloc: Global, program: &Program) -> Result<CodeIndex, AllocError>
     ensures { IfOk result (λ i. IsIndexOf i (plain_program program.now)) }
 {
     let heads = program.heads.as_slice();
@@ -57,7 +57,7 @@ pub fn index_of(alloc: Global, program: &Program) -> Result<Index, AllocError>
     let feeds = places(alloc, &feed_names)?;
     let tasks_at = places(alloc, &task_names)?;
     let registers = all_registers(alloc, tasks)?;
-    Ok(Index {
+    Ok(CodeIndex {
         barriers,
         feeds,
         tasks: tasks_at,
@@ -66,14 +66,14 @@ pub fn index_of(alloc: Global, program: &Program) -> Result<Index, AllocError>
 }
 
 /// The cells of the lock array of a name; where there is none, it has no cells.
-pub fn lock_array(scope: &Scope, x: &Name) -> Cells
+pub fn lock_array(scope: &Scope, x: &Name) -> CellRange
     ensures { result ≡ cells_of (locks_of (scope_here scope.now).program.heads) x.now }
 {
     scope.checked.lock_array(x)
 }
 
 /// The cells of the record of a name; where there is none, it has no cells.
-pub fn record_array(scope: &Scope, x: &Name) -> Cells
+pub fn record_array(scope: &Scope, x: &Name) -> CellRange
     ensures { result ≡ cells_of (records_of (scope_here scope.now).program.heads) x.now }
 {
     scope.checked.record_array(x)

@@ -68,7 +68,7 @@ pub fn drive_by<R: Threads + Sync, C: Crew, O: Sink, N: Notes, L: Sink>(
     rt: &R,
     alloc: Global,
     recovery: Recovery,
-    w: &Work,
+    work: &Work,
     layout: Layout,
     inputs: Inputs,
     faults: Faults,
@@ -78,24 +78,24 @@ pub fn drive_by<R: Threads + Sync, C: Crew, O: Sink, N: Notes, L: Sink>(
     notes: &mut N,
     log: &mut L,
 ) -> Result<Report, EngineStop>
-    requires suits { Suits w.now layout inputs limits }
+    requires suits { Suits work.now layout inputs limits }
     requires cuts { HasCuts recovery }
     requires ready { C.ready crew.old }
-    requires work { C.work crew.old ≡ w.now }
+    requires work { C.work crew.old ≡ work.now }
     requires none_out { C.out crew.old ≡ [] }
     requires none_posted { C.posted crew.old ≡ [] }
-    ensures journal { JournalStands (batch_of recovery w.now inputs limits faults) (journal_in result) }
-    ensures report { IfOk result (ReportsRun (batch_of recovery w.now inputs limits faults)) }
-    ensures lines { OnOk result (Appends (O.written out.old) (O.written out.new) (printed (all_lines (batch_of recovery w.now inputs limits faults)))) }
-    ensures partly { WritesRetired (batch_of recovery w.now inputs limits faults) (O.written out.old) (O.written out.new) (journal_in result) }
+    ensures journal { JournalStands (batch_of recovery work.now inputs limits faults) (journal_in result) }
+    ensures report { IfOk result (ReportsRun (batch_of recovery work.now inputs limits faults)) }
+    ensures lines { OnOk result (Appends (O.written out.old) (O.written out.new) (printed (all_lines (batch_of recovery work.now inputs limits faults)))) }
+    ensures partly { WritesRetired (batch_of recovery work.now inputs limits faults) (O.written out.old) (O.written out.new) (journal_in result) }
     ensures cause { HasRunCauses (O.faults out.old) (O.faults out.new) (L.faults log.old) (L.faults log.new) result }
-    ensures notes { NotesRun (N.tells notes.old) (N.tells notes.new) N.part (batch_of recovery w.now inputs limits faults) (L.written log.old) (L.written log.new) result }
+    ensures notes { NotesRun (N.tells notes.old) (N.tells notes.new) N.part (batch_of recovery work.now inputs limits faults) (L.written log.old) (L.written log.new) result }
     ensures ready { C.ready crew.new }
     ensures work { C.work crew.new ≡ C.work crew.old }
     ensures posts { ArePosts (C.posted crew.new) (journal_in result) }
     ensures out { ¬ RanOut result → IsUntaken (C.out crew.new) (journal_in result) }
 {
-    match Engine::new(alloc, recovery, w, layout, inputs, faults, limits) {
+    match Engine::new(alloc, recovery, work, layout, inputs, faults, limits) {
         Ok(engine) => finish(rt, engine, crew, out, notes, log),
         Err(_) => Err(EngineStop {
             why: StopWhy::OutOfMemory,

@@ -16,7 +16,7 @@ use Rattle.call_cases.specs.meaning.Answers.{Change, IsEmpty}
 use Rattle.call_cases.specs.Answers.{RunEnds, LogEnds}
 use Rattle.call_cases.specs.meaning.RunCommands.{work_text, work_status, trace_for}
 use Rattle.batch_calls.specs.declared.plan.Begins.{Begins}
-use Rattle.batch_calls.specs.declared.plan.Plan.{Plan}
+use Rattle.batch_calls.specs.declared.plan.AskedRun.{AskedRun}
 use Rattle.batch_calls.specs.meaning.LogCommands.{log_for, TakesLog}
 use Rattle.batch_calls.specs.inner.Ran.{Journalled}
 
@@ -25,16 +25,16 @@ abbrev pub recovery_of : Command → Recovery
 recovery_of (Ckpt every) = Rollback every
 recovery_of other = Selective
 
--- the code is that of the plan's program, and what its run begins with suits the code and what is asked
-pub record IsPlanned (plan : Plan) (code : Work) (begins : Begins) : Type 0 where
-  pub suits : Suits code begins.layout begins.inputs begins.limits
-  pub program_is : program_in code ≡ plain_program (program_of plan.checked)
+-- the work is that of the plan's program, and what its run begins with suits the code and what is asked
+pub record IsPlanned (plan : AskedRun) (work : Work) (begins : Begins) : Type 0 where
+  pub suits : Suits work begins.layout begins.inputs begins.limits
+  pub program_is : program_in work ≡ plain_program (program_of plan.checked)
   pub limits_are : begins.limits ≡ plan.asked.limits
   pub recovery_is : begins.recovery ≡ recovery_of plan.asked.command
   pub cuts : HasCuts begins.recovery
 
 -- what is to be done by a plan, from what its run begins with
-abbrev pub work_planned : Plan → Begins → ToDo
+abbrev pub work_planned : AskedRun → Begins → ToDo
 work_planned plan begins = work_for plan.asked (plain_program (program_of plan.checked)) begins.inputs begins.faults.list
 
 -- the same, without faults

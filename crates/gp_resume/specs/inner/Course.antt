@@ -20,7 +20,7 @@ use Rattle.task_code.specs.Reading.{Place}
 use Rattle.task_code.specs.Relation.{Rests}
 use Rattle.record_store.specs.Stored.{Stored, state_of, IsAllHome}
 use Rattle.subthread.specs.Tasks.{Suits, machine_of, program_in as program_of}
-use Rattle.gp_resume.specs.declared.course.Plan.{Plan}
+use Rattle.gp_resume.specs.declared.course.ResumePlan.{ResumePlan}
 use Rattle.gp_resume.specs.declared.course.Spot.{Spot}
 use Rattle.gp_resume.specs.declared.course.Course.{Course}
 use Rattle.gp_resume.specs.declared.course.Begun.{Begun}
@@ -36,10 +36,10 @@ abbrev pub run_in : Course → PlainOf Place
 run_in course = record { table = course.ring.table; points = map spot_place course.spots.items; state = state_of course.store }
 
 -- work, layout, inputs and limits suit one another
-abbrev pub IsSuited : Plan → Type 0
+abbrev pub IsSuited : ResumePlan → Type 0
 IsSuited plan = Suits plan.work.now (layout (program_of plan.work.now).heads) plan.inputs.value plan.limits
 
-module _ (plan : Plan) where
+module _ (plan : ResumePlan) where
   -- a run on the tree and one on the code are one
   abbrev pub IsSameRun : Plain → PlainOf Place → Type 0
   IsSameRun x y =

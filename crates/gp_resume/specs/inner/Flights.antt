@@ -24,7 +24,7 @@ use Rattle.record_store.specs.Stored.{Stored, state_of}
 use Rattle.subthread.specs.declared.task.Work.{Work}
 use Rattle.subthread.specs.declared.task.Task.{Task}
 use Rattle.subthread.specs.Tasks.{machine_of, under_of, program_in as program_of}
-use Rattle.gp_resume.specs.declared.course.Plan.{Plan}
+use Rattle.gp_resume.specs.declared.course.ResumePlan.{ResumePlan}
 use Rattle.gp_resume.specs.declared.course.Begun.{Begun}
 use Rattle.gp_resume.specs.declared.course.Course.{Course}
 use Rattle.gp_resume.specs.inner.Course.{spot_place, IsSound, AreNumbered, Stands}
@@ -84,7 +84,7 @@ task_from work state begun =
 abbrev pub start_next : Next
 start_next = record { sync = sync.Start; line = 0 }
 
-module _ (plan : Plan) where
+module _ (plan : ResumePlan) where
   abbrev pub tree : Machine Point
   tree = tree_machine (program_of plan.work.now) plan.inputs.value plan.limits
 

@@ -10,7 +10,7 @@ use Rattle.record_store.specs.Stored.{state_of}
 use Rattle.restart_log.specs.meaning.Lines.{printed}
 use Rattle.retirement_log.specs.meaning.Rows.{Retirement}
 use Rattle.subthread.specs.Tasks.{program_in}
-use Rattle.gp_resume.specs.declared.course.Plan.{Plan}
+use Rattle.gp_resume.specs.declared.course.ResumePlan.{ResumePlan}
 use Rattle.gp_resume.specs.declared.course.Course.{Course}
 use Rattle.gp_resume.specs.declared.log.Logged.{Logged}
 use Rattle.gp_resume.specs.inner.Course.{IsHome, StandsAt}
@@ -19,7 +19,7 @@ use Rattle.gp_resume.specs.meaning.Fitting.{resumed_at}
 use Rattle.gp_resume.specs.meaning.Reading.{BeginsWith, IsLogOf}
 use Rattle.gp_resume.specs.meaning.Resumed.{lines_of, bytes_before}
 
-module _ (plan : Plan) where
+module _ (plan : ResumePlan) where
   -- how many steps a run makes at most from here; one more than its limit leaves finds the end
   abbrev pub left : Plain → ℕ
   left x = suc plan.limits.subthreads - x.table.issued
@@ -44,7 +44,7 @@ abbrev pub firsts_from : (position count : ℕ) → List (ℕ × ℕ)
 firsts_from p n = map (λ (q : ℕ). (q, 0)) (numbers p n)
 
 -- The run went on from x to where the course stands, by these subthreads, whose lines were written and whose first attempts were posted.
-pub record Went (plan : Plan) (x : Plain) (before written : Option (List ℕ)) (posted : List (ℕ × ℕ)) (course : Course) : Type 0 where
+pub record Went (plan : ResumePlan) (x : Plain) (before written : Option (List ℕ)) (posted : List (ℕ × ℕ)) (course : Course) : Type 0 where
   pub now : Plain
   pub done : List Subthread
   pub stands : StandsPast plan now course
@@ -55,7 +55,7 @@ pub record Went (plan : Plan) (x : Plain) (before written : Option (List ℕ)) (
   pub posts : posted ≡ firsts_from x.table.issued (length done)
 
 -- So many rows stand in the log before the rest, and fit, with so many bytes of the text; the course stands where they leave the run.
-pub record HasReplayed (plan : Plan) (log rest : List ℕ) (logged : Logged) (course : Course) : Type 0 where
+pub record HasReplayed (plan : ResumePlan) (log rest : List ℕ) (logged : Logged) (course : Course) : Type 0 where
   pub rows : List Retirement
   pub begins : BeginsWith (program_in plan.work.now) plan.inputs.value plan.limits log rows rest
   pub count : logged.rows ≡ length rows
@@ -63,7 +63,7 @@ pub record HasReplayed (plan : Plan) (log rest : List ℕ) (logged : Logged) (co
   pub stands : StandsAt plan (resumed_at (program_in plan.work.now) plan.inputs.value plan.limits rows) course
 
 -- The log has rows, which fit: these are so many, with so many bytes of the text, and the course stands where they leave the run.
-pub record Replays (plan : Plan) (log : List ℕ) (logged : Logged) (course : Course) : Type 0 where
+pub record Replays (plan : ResumePlan) (log : List ℕ) (logged : Logged) (course : Course) : Type 0 where
   pub rows : List Retirement
   pub is_log : IsLogOf (program_in plan.work.now) plan.inputs.value plan.limits log rows
   pub count : logged.rows ≡ length rows

@@ -8,7 +8,7 @@ use Rattle.subthread.specs.declared.task.Work.{Work}
 use Rattle.subthread.specs.declared.task.Task.{Task}
 use Rattle.subthread.specs.declared.task.Done.{Done}
 use Rattle.subthread.specs.Tasks.{task_of, IsRun}
-use Rattle.gp_resume.specs.declared.course.Plan.{Plan}
+use Rattle.gp_resume.specs.declared.course.ResumePlan.{ResumePlan}
 use Rattle.gp_resume.specs.declared.course.Begun.{Begun}
 use Rattle.gp_resume.specs.declared.course.Course.{Course}
 use Rattle.gp_resume.specs.declared.course.Step.{Step}
@@ -18,7 +18,7 @@ use Rattle.gp_resume.specs.inner.Going.{rest, last, firsts_from}
 use Rattle.gp_resume.specs.meaning.Resumed.{lines_of}
 
 -- the tasks of those that are out, which are given what they find in this state
-abbrev pub tasks_of : Plan → Plain → List Flown → List Task
+abbrev pub tasks_of : ResumePlan → Plain → List Flown → List Task
 tasks_of plan x fs = map (λ (f : Flown). task_from plan.work.now x.state f.begun) fs
 
 -- their subthreads
@@ -63,7 +63,7 @@ abbrev pub IsClosed : Step → Course → Type 0
 IsClosed (step.Goes begun) course = course.ring.cleared ≡ false
 IsClosed (step.Ends end) course = ⊤
 
-module _ (plan : Plan) where
+module _ (plan : ResumePlan) where
   -- a course stood where some run does, and some turns have passed since
   abbrev pub StandsSomewhere : Course → Type 0
   StandsSomewhere course = (x : Plain) × StandsPast plan x course

@@ -5,7 +5,7 @@ use Rattle.task_ast.specs.declared.tree.Program.{Program}
 use Rattle.task_ast.specs.meaning.Tree as plain
 use Rattle.task_ast.specs.meaning.Names.{is_among, named, locks_of, arrays_over, barriers_of, feeds_of, task_named}
 use Rattle.task_ast.specs.View.{plain_task, plain_program}
-use Rattle.lock_checker.specs.declared.index.Index.{Index}
+use Rattle.lock_checker.specs.declared.index.ProgramIndex.{ProgramIndex}
 use Rattle.lock_checker.specs.Tables.{found}
 
 -- what a reference to a name points to
@@ -13,7 +13,7 @@ abbrev pub target : Bor plain.Name → plain.Name
 target r = r.now
 
 -- each table of the index finds what the program declares
-pub record IsIndexOf (index : Index) (program : Program) : Type 0 where
+pub record IsIndexOf (index : ProgramIndex) (program : Program) : Type 0 where
   pub locks : (x : plain.Name) → found index.locks x ≡ named x (locks_of program.heads)
   pub arrays : (x : plain.Name) → option_map target (found index.arrays x) ≡ named x (arrays_over program.heads)
   pub barriers : (x : plain.Name) → is_some (found index.barriers x) ≡ is_some (named x (barriers_of program.heads))

@@ -4,11 +4,11 @@ use Rattle.task_ast.specs.declared.tree.Atom.{Atom}
 use Rattle.task_ast.specs.declared.tree.Atom.TheVariants as atom
 use Rattle.task_ast.specs.meaning.Held as plain
 use Rattle.lock_checker.specs.declared.held.Pairs.{Pairs}
-use Rattle.lock_checker.specs.declared.pair.Index.{Index}
-use Rattle.lock_checker.specs.declared.pair.Index.TheVariants.{Number, Variable}
+use Rattle.lock_checker.specs.declared.pair.LockIndex.{LockIndex}
+use Rattle.lock_checker.specs.declared.pair.LockIndex.TheVariants.{Number, Variable}
 use Rattle.lock_checker.specs.declared.pair.Pair.{Pair}
 
-abbrev pub atom_of : Index → Atom
+abbrev pub atom_of : LockIndex → Atom
 atom_of (Number v) = atom.Num v
 atom_of (Variable x) = atom.Var x.now
 

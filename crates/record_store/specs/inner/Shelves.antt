@@ -2,15 +2,15 @@
 use Rattle.std.specs.Prelude.{◌≡◌, ℕ, ℤ, Bool, true, false, List, [], map, length, Some, slice_get, slice_index_or}
 use Rattle.task_ast.specs.meaning.State.{number_at}
 use Rattle.task_ast.specs.meaning.Under.{under_lock}
-use Rattle.record_store.specs.declared.shelf.Shelf.{Shelf}
-use Rattle.record_store.specs.declared.shelf.Shelf.TheVariants.{Home, Lent}
+use Rattle.record_store.specs.declared.shelf.CellShelf.{CellShelf}
+use Rattle.record_store.specs.declared.shelf.CellShelf.TheVariants.{Home, Lent}
 
 -- the values of a shelf, or those with which it was lent
-abbrev pub seen : Shelf → List ℤ
+abbrev pub seen : CellShelf → List ℤ
 seen (Home cells) = cells
 seen (Lent cells) = cells.value
 
-abbrev pub is_away : Shelf → Bool
+abbrev pub is_away : CellShelf → Bool
 is_away (Home cells) = false
 is_away (Lent cells) = true
 
@@ -38,5 +38,5 @@ pub record IsKept (under : List (List ℕ)) (places : List (ℕ × ℕ)) (shelve
   pub room_is : room ≡ length places
 
 -- a shelf at home with the values of these cells
-abbrev pub new_shelf : (cells : List ℤ) → (numbers : List ℕ) → Shelf
+abbrev pub new_shelf : (cells : List ℤ) → (numbers : List ℕ) → CellShelf
 new_shelf cells numbers = Home (map (number_at cells) numbers)

@@ -25,12 +25,12 @@ use Rattle.call_cases.specs.Refusals.{IsInputRefused, RefusalEnds}
 use Rattle.call_cases.specs.meaning.RunCommands.{end_status}
 use Rattle.call_cases.specs.Decided.{program_in as request_program}
 use Rattle.resume_calls.specs.declared.halted.Halted.{Halted}
-use Rattle.resume_calls.specs.declared.plan.Plan.{Plan}
+use Rattle.resume_calls.specs.declared.plan.OpenedRun.{OpenedRun}
 
--- the code is that of the accepted program, and what its run begins with suits it
-pub record IsPlanOf (code : Work) (plan : Plan) : Type 0 where
-  pub suits : Suits code plan.opening.layout plan.opening.inputs plan.opening.limits
-  pub program_is : program_in code ≡ plain_program (program_of plan.checked)
+-- the work is that of the accepted program, and what its run begins with suits it
+pub record IsPlanOf (work : Work) (plan : OpenedRun) : Type 0 where
+  pub suits : Suits work plan.opening.layout plan.opening.inputs plan.opening.limits
+  pub program_is : program_in work ≡ plain_program (program_of plan.checked)
 
 -- Writes the first line, where no line ends in a log with these bytes; else nothing.
 pub record PutsFirst {T : Type 0} (bytes : List ℕ) (out : Change) (result : Result T ResumeStop) : Type 0 where

@@ -2,7 +2,7 @@
 use Rattle.std.specs.Prelude.{◌≡◌, [], map}
 use Rattle.task_ast.specs.meaning.Effect.{Doing}
 use Rattle.subthread.specs.declared.ground.Ground.{Ground}
-use Rattle.subthread.specs.declared.ground.Stand.{Stand}
+use Rattle.subthread.specs.declared.ground.Cursor.{Cursor}
 use Rattle.subthread.specs.declared.ground.Doing as code
 use Rattle.subthread.specs.declared.task.Work.{Work}
 use Rattle.subthread.specs.declared.task.Task.{Task}
@@ -13,21 +13,21 @@ use Rattle.subthread.specs.inner.Running.{doing_of, Holds}
 use Rattle.subthread.specs.inner.Leaving.{Walked}
 
 -- where a task stands before anything is done, and what it was given
-abbrev pub stand_at : Task → Stand
-stand_at task = record { pc = task.at.pc; ctl = task.ctl }
+abbrev pub cursor_at : Task → Cursor
+cursor_at task = record { pc = task.at.pc; ctl = task.ctl }
 
 abbrev pub before_all : Task → Doing
 before_all task = record { registers = task.given.regs; child = []; written = []; lines = [] }
 
 -- the walk of a task came to the end of its body, and has its cells at hand
 pub record IsWalk (work : Work) (task : Task) (ground : Ground) (walk : Walk) : Type 0 where
-  pub walked : Walked work task (walk.next, walk.foot) (stand_at task) (before_all task) walk.stand (doing_of walk.doing)
+  pub walked : Walked work task (walk.next, walk.foot) (cursor_at task) (before_all task) walk.cursor (doing_of walk.doing)
   pub holds : Holds ground walk.doing
 
 -- a walk came to where another one did, of which this was kept: in as many steps, by the same locations
 pub record IsSameControl (walk : Walk) (left : Left) : Type 0 where
   pub steps : walk.doing.steps ≡ left.steps
-  pub stand : walk.stand ≡ left.stand
+  pub cursor : walk.cursor ≡ left.cursor
   pub next : walk.next ≡ left.next
   pub foot : walk.foot ≡ left.foot
 

@@ -5,12 +5,12 @@ use Rattle.task_ast.specs.meaning.Names.{is_name, barriers_of, feeds_of, registe
 use Rattle.task_ast.specs.View.{plain_program}
 use Rattle.lock_checker.specs.Accepted.{program_of}
 use Rattle.lock_checker.specs.Tables.{found}
-use Rattle.task_code.specs.declared.scope.Index.{Index}
+use Rattle.task_code.specs.declared.scope.CodeIndex.{CodeIndex}
 use Rattle.task_code.specs.declared.scope.Scope as here
 use Rattle.task_code.specs.Lowering.{Scope}
 
 -- the tables find what the program declares
-pub record IsIndexOf (index : Index) (program : plain.Program) : Type 0 where
+pub record IsIndexOf (index : CodeIndex) (program : plain.Program) : Type 0 where
   pub barriers : (x : plain.Name) → found index.barriers x ≡ position (λ other. is_name x other.0) (barriers_of program.heads)
   pub feeds : (x : plain.Name) → found index.feeds x ≡ position (is_name x) (feeds_of program.heads)
   pub tasks : (x : plain.Name) → found index.tasks x ≡ position (is_task x) program.tasks

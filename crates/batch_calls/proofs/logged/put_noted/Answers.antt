@@ -14,7 +14,7 @@ returns-clause-lines g c =
     let log = change_of g.L.Sink.written g.L.Sink.faults c.args.log.now c.drive_noted.new.log in
     let planned = c.requires.planned in
     let ran = c.drive_noted.ensures in
-    runs_if (batch_of c.args.basis.now.code.now begins.inputs begins.limits begins.faults) work planned.program_is refl planned.limits_are refl
+    runs_if (batch_of c.args.basis.now.work.now begins.inputs begins.limits begins.faults) work planned.program_is refl planned.limits_are refl
     (sym (ap recovery_of c.requires.run))
     (Fails out ⊎ Fails log) out c.drive_noted.result ran.journal ran.report ran.lines ran.partly ran.cause.later ran.cause.failed
 
@@ -24,7 +24,7 @@ returns-clause-log g c =
     let work = work_planned c.args.basis.now.plan.now begins in
     let out = change_of g.O.Sink.written g.O.Sink.faults c.args.out.now c.drive_noted.new.out in
     let log = change_of g.L.Sink.written g.L.Sink.faults c.args.log.now c.drive_noted.new.log in
-    let batch = batch_of c.args.basis.now.code.now begins.inputs begins.limits begins.faults in
+    let batch = batch_of c.args.basis.now.work.now begins.inputs begins.limits begins.faults in
     let planned = c.requires.planned in
     let recovery = sym (ap recovery_of c.requires.run) in
     let ran = c.drive_noted.ensures in

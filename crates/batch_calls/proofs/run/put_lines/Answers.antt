@@ -11,7 +11,7 @@ returns-in-Selective g c =
     let begins = c.args.begins in
     let planned = c.requires.planned in
     let ran = c.drive.ensures in
-    runs_work (batch_of Selective c.args.basis.now.code.now begins.inputs begins.limits begins.faults)
+    runs_work (batch_of Selective c.args.basis.now.work.now begins.inputs begins.limits begins.faults)
     (work_planned c.args.basis.now.plan.now begins) planned.program_is refl planned.limits_are refl
     (sym c.in-Selective.is ∙ planned.recovery_is)
     (change_of g.O.Sink.written g.O.Sink.faults c.args.out.now c.drive.new.out) c.drive.result
@@ -22,7 +22,7 @@ returns-in-Rollback g c =
     let begins = c.args.begins in
     let planned = c.requires.planned in
     let ran = c.ckpt_drive.ensures in
-    runs_work (batch_of (Rollback c.in-Rollback.every) c.args.basis.now.code.now begins.inputs begins.limits begins.faults)
+    runs_work (batch_of (Rollback c.in-Rollback.every) c.args.basis.now.work.now begins.inputs begins.limits begins.faults)
     (work_planned c.args.basis.now.plan.now begins) planned.program_is refl planned.limits_are refl
     (sym c.in-Rollback.is ∙ planned.recovery_is)
     (change_of g.O.Sink.written g.O.Sink.faults c.args.out.now c.ckpt_drive.new.out) c.ckpt_drive.result

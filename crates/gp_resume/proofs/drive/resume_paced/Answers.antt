@@ -1,7 +1,7 @@
 use Rattle.std.proofs.Common.{rules, List, length, subst, Ok}
 use Rattle.std.proofs.lemmas.Result.{err_from_is_err_and}
 use Rattle.subthread.specs.Tasks.{program_in}
-use Rattle.gp_resume.specs.declared.course.Plan.{Plan}
+use Rattle.gp_resume.specs.declared.course.ResumePlan.{ResumePlan}
 use Rattle.gp_resume.specs.meaning.Resumed.{count}
 use Rattle.gp_resume.specs.Resuming.{IsRefused, HasResumeCause, DrivesRest}
 use Rattle.gp_resume.specs.inner.Going.{Replays}
@@ -10,7 +10,7 @@ use Rattle.gp_resume.proofs.drive.resume_paced.Goals as goal
 use Rattle.gp_resume.proofs.drive.resume_paced.Goals.{In_ok-course}
 
 -- what is run
-abbrev plan-of : (g : _) (c : In_ok-course g) → Plan
+abbrev plan-of : (g : _) (c : In_ok-course g) → ResumePlan
 plan-of g c = record {
   work = c.args.paced.work;
   inputs = c.of.result;

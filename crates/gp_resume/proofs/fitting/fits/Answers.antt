@@ -13,7 +13,7 @@ use Rattle.task_ast.specs.meaning.Plain.{Subthread}
 use Rattle.task_ast.specs.Plain.{Plain}
 use Rattle.record_store.specs.Stored.{state_of}
 use Rattle.subthread.specs.Tasks.{program_in}
-use Rattle.gp_resume.specs.declared.course.Plan.{Plan}
+use Rattle.gp_resume.specs.declared.course.ResumePlan.{ResumePlan}
 use Rattle.gp_resume.specs.declared.course.Course.{Course}
 use Rattle.gp_resume.specs.declared.course.Begun.{Begun}
 use Rattle.gp_resume.specs.meaning.Fitting.{StandsUnder, child_size}
@@ -22,7 +22,7 @@ use Rattle.gp_resume.specs.inner.RowsRead.{write_in}
 use Rattle.gp_resume.proofs.Tasks.{rising}
 use Rattle.gp_resume.proofs.fitting.fits.Goals as goal
 
-module _ (plan : Plan) (x : Plain) (s : Subthread) (y : Plain) (begun : Begun) (course : Course)
+module _ (plan : ResumePlan) (x : Plain) (s : Subthread) (y : Plain) (begun : Begun) (course : Course)
     (begins : Begins plan x s y begun course) where
   regs-are : (regs : List ℤ) → regs ≡ state_of course.store (RegistersOf begun.thread)
       → length regs ≡ length (x.state (RegistersOf s.thread))

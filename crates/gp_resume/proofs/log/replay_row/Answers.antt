@@ -8,7 +8,7 @@ use Rattle.task_ast.specs.Plain.{Plain}
 use Rattle.task_ast.specs.laws.Runs.{plain_for, IsInside}
 use Rattle.subthread.specs.Tasks.{program_in}
 use Rattle.retirement_log.specs.meaning.Rows.{Retirement}
-use Rattle.gp_resume.specs.declared.course.Plan.{Plan}
+use Rattle.gp_resume.specs.declared.course.ResumePlan.{ResumePlan}
 use Rattle.gp_resume.specs.declared.course.Course.{Course}
 use Rattle.gp_resume.specs.declared.course.Begun.{Begun}
 use Rattle.std.specs.Bool.{Decides}
@@ -34,11 +34,11 @@ next-requires-clause-stands c =
     (c.requires.stands.0, past-none c.args.plan.now c.requires.stands.0 c.args.course.now c.requires.stands.1)
 
 -- a run on the tree, as the general turn has it
-abbrev tree_run : Plan → Run → Plain
+abbrev tree_run : ResumePlan → Run → Plain
 tree_run plan x = plain_for (program_in plan.work.now) plan.limits x
 
 -- the move of the run is the subthread that begins
-module _ (plan : Plan) (x : Run) (s : Subthread) (y : Plain) (begun : Begun) (course : Course) (inside : IsInside x)
+module _ (plan : ResumePlan) (x : Run) (s : Subthread) (y : Plain) (begun : Begun) (course : Course) (inside : IsInside x)
     (begins : Begins plan (tree_run plan x) s y begun course) (before : Option Retirement) (row : Retirement) where
   fits-move : FitsIssue (program_in plan.work.now) x.issued x.state s before row
       → FitsMove (program_in plan.work.now) x (plain_move (program_in plan.work.now) plan.inputs.value plan.limits x) before row
@@ -63,7 +63,7 @@ module _ (plan : Plan) (x : Run) (s : Subthread) (y : Plain) (begun : Begun) (co
       }
 
 -- no row fits where the run has ended
-ends-no : (plan : Plan) (x : Run) (before : Option Retirement) (row : Retirement) (found : Step) (course : Course) → IsInside x
+ends-no : (plan : ResumePlan) (x : Run) (before : Option Retirement) (row : Retirement) (found : Step) (course : Course) → IsInside x
     → Gives plan (tree_run plan x) found course → ((begun : Begun) → found ≡ step.Goes begun → ⊥)
     → Decides false (FitsMove (program_in plan.work.now) x (plain_move (program_in plan.work.now) plan.inputs.value plan.limits x) before row)
 ends-no plan x before row (step.Goes begun) course inside gives none = absurd (none begun refl)

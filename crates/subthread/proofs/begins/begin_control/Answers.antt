@@ -6,26 +6,26 @@ use Rattle.subthread.proofs.begins.begin_control.Goals as goal
 
 pub go_behind-requires-clause-inside : goal.go_behind-requires-clause-inside
 go_behind-requires-clause-inside c =
-    let read = c.index-ground-stand in
-    stays_read c.args.ground.now.instrs.now c.requires.inside c.requires.short c.args.stand.now.pc read.result
-    c.if-stand-ground.true read.is
+    let read = c.index-ground-cursor in
+    stays_read c.args.ground.now.instrs.now c.requires.inside c.requires.short c.args.cursor.now.pc read.result
+    c.if-cursor-ground.true read.is
 
-pub returns-then-stand-ground : goal.returns-then-stand-ground
-returns-then-stand-ground c =
+pub returns-then-cursor-ground : goal.returns-then-cursor-ground
+returns-then-cursor-ground c =
     let ground = c.args.ground.now in
-    let place = place_in ground c.args.stand.now in
-    let then = place_in ground c.go_behind.new.stand in
-    let pc = c.args.stand.now.pc in
-    let read = c.index-ground-stand in
-    let here = instr_read ground.instrs.now pc read.result c.if-stand-ground.true read.is in
+    let place = place_in ground c.args.cursor.now in
+    let then = place_in ground c.go_behind.new.cursor in
+    let pc = c.args.cursor.now.pc in
+    let read = c.index-ground-cursor in
+    let here = instr_read ground.instrs.now pc read.result c.if-cursor-ground.true read.is in
     let later = sym c.is_start.ensures ∙ c.if-is_start.false in
-    let line = (get_or ground.instrs.now c.args.stand.now.pc c.index-ground-stand.result).line in
+    let line = (get_or ground.instrs.now c.args.cursor.now.pc c.index-ground-cursor.result).line in
     begins_behind ground c.requires c.args.child place refl c.args.begins.now _ later here then (c.go_behind.ensures line)
 
-pub returns-else-stand-ground : goal.returns-else-stand-ground
-returns-else-stand-ground c =
+pub returns-else-cursor-ground : goal.returns-else-cursor-ground
+returns-else-cursor-ground c =
     let ground = c.args.ground.now in
-    let place = place_in ground c.args.stand.now in
+    let place = place_in ground c.args.cursor.now in
     let later = sym c.is_start.ensures ∙ c.if-is_start.false in
-    let none = none_past ground.instrs.now c.args.stand.now.pc c.if-stand-ground.false in
+    let none = none_past ground.instrs.now c.args.cursor.now.pc c.if-cursor-ground.false in
     begins_behind ground c.requires c.args.child place refl c.args.begins.now None later none place refl

@@ -1,5 +1,5 @@
 use Rattle.std.proofs.Common.{refl, ◌∙◌}
-use Rattle.subthread.specs.declared.ground.Stand.{Stand}
+use Rattle.subthread.specs.declared.ground.Cursor.{Cursor}
 use Rattle.subthread.proofs.Moves.{whole_led}
 use Rattle.subthread.proofs.control.control_of.Goals as goal
 
@@ -8,9 +8,9 @@ returns c =
     let ground = c.control_ground-ground.result in
     let is = c.control_ground-ground.ensures.is in
     let at = c.args.at in
-    let before : Stand = record { pc = at.pc; ctl = c.in_ok-ctl.ctl } in
-    let middle = c.begin_control.new.stand in
-    let then = c.control_body.new.stand in
+    let before : Cursor = record { pc = at.pc; ctl = c.in_ok-ctl.ctl } in
+    let middle = c.begin_control.new.cursor in
+    let then = c.control_body.new.cursor in
     let led = whole_led c.args.work.now ground at c.args.thread is c.args.begins.now.sync c.args.child c.args.ctl.now
     before refl c.in_ok-ctl.ensures middle then c.in_ok-next.next c.begin_control.ensures c.in_ok-next.ensures in
     record {

@@ -8,24 +8,24 @@ use Rattle.subthread.proofs.control.control_step.Goals as goal
 pub control_at-requires : goal.control_at-requires
 control_at-requires c =
     let task = c.requires in
-    let read = c.index-ground-stand in
-    stays_read c.args.ground.now.instrs.now task.inside task.short c.args.stand.now.pc read.result c.if-stand-ground.true read.is
+    let read = c.index-ground-cursor in
+    stays_read c.args.ground.now.instrs.now task.inside task.short c.args.cursor.now.pc read.result c.if-cursor-ground.true read.is
 
-pub returns-then-stand-ground : goal.returns-then-stand-ground
-returns-then-stand-ground c =
+pub returns-then-cursor-ground : goal.returns-then-cursor-ground
+returns-then-cursor-ground c =
     let ground = c.args.ground.now in
-    let place = place_in ground c.args.stand.now in
-    let then = place_in ground c.control_at.new.stand in
-    let pc = c.args.stand.now.pc in
-    let read = c.index-ground-stand in
-    let here = instr_read ground.instrs.now pc read.result c.if-stand-ground.true read.is in
+    let place = place_in ground c.args.cursor.now in
+    let then = place_in ground c.control_at.new.cursor in
+    let pc = c.args.cursor.now.pc in
+    let read = c.index-ground-cursor in
+    let here = instr_read ground.instrs.now pc read.result c.if-cursor-ground.true read.is in
     subst (λ o. IfOk c.control_at.result (λ went. Moved (step_instr ground.feeds.now o place) went place then)) (sym here)
     c.control_at.ensures
 
-pub returns-else-stand-ground : goal.returns-else-stand-ground
-returns-else-stand-ground c =
+pub returns-else-cursor-ground : goal.returns-else-cursor-ground
+returns-else-cursor-ground c =
     let ground = c.args.ground.now in
-    let place = place_in ground c.args.stand.now in
+    let place = place_in ground c.args.cursor.now in
     subst (λ o. Moved (step_instr ground.feeds.now o place) c.stop.result place place)
-    (sym (none_past ground.instrs.now c.args.stand.now.pc c.if-stand-ground.false))
+    (sym (none_past ground.instrs.now c.args.cursor.now.pc c.if-cursor-ground.false))
     (subst (λ went. Moved (step_instr ground.feeds.now None place) went place place) (sym c.stop.ensures) (refl, refl))

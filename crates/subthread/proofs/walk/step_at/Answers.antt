@@ -5,8 +5,8 @@ use Rattle.subthread.proofs.walk.step_at.Goals as goal
 pub returns-in_default : goal.returns-in_default
 returns-in_default c =
     let ground = c.args.ground.now in
-    let place = place_in ground c.args.stand.now in
-    let then = place_in ground c.control_at.new.stand in
+    let place = place_in ground c.args.cursor.now in
+    let then = place_in ground c.control_at.new.cursor in
     let old = did c.args.doing.now c.args.names.now in
     let does = c.args.does.now in
     record {

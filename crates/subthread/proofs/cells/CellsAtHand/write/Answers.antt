@@ -10,8 +10,8 @@ use Rattle.subthread.proofs.Placing.{place_within}
 use Rattle.subthread.proofs.Standing.{stands_has}
 use Rattle.subthread.proofs.Written.{came_same, written_then}
 use Rattle.subthread.proofs.Handy.{handy_with}
-use Rattle.subthread.proofs.cells.Cells.write.Goals as goal
-use Rattle.subthread.proofs.cells.Cells.write.Goals.{After-deref-2, After-self-1}
+use Rattle.subthread.proofs.cells.CellsAtHand.write.Goals as goal
+use Rattle.subthread.proofs.cells.CellsAtHand.write.Goals.{After-deref-2, After-self-1}
 
 stands : (c : After-deref-2) → StandsAt c.self.inside.under.now c.args.cell c.in-Some.at c.in-Some.place c.self.inside.bundles.items
 stands c = subst (StandsAt c.self.inside.under.now c.args.cell c.in-Some.at c.in-Some.place) c.deref.ensures.value c.in-Some.ensures

@@ -9,8 +9,8 @@ use Rattle.subthread.specs.inner.Hand.{Hand}
 use Rattle.record_store.specs.Lent.{lock_in}
 use Rattle.task_ast.specs.meaning.Under.{is_under}
 use Rattle.subthread.proofs.Written.{now_is}
-use Rattle.subthread.proofs.cells.Cells.value.Goals as goal
-use Rattle.subthread.proofs.cells.Cells.value.Goals.{After-deref-in-Some}
+use Rattle.subthread.proofs.cells.CellsAtHand.value.Goals as goal
+use Rattle.subthread.proofs.cells.CellsAtHand.value.Goals.{After-deref-in-Some}
 
 stands : (c : After-deref-in-Some) → StandsAt c.self.inside.under.now c.args.cell c.in-Some.at c.in-Some.place c.deref-in-Some.result.now
 stands c =

@@ -1,5 +1,5 @@
 use Rattle.subthread.proofs.Among.{all_among}
-use Rattle.subthread.proofs.cells.Cells.finish.Goals as goal
+use Rattle.subthread.proofs.cells.CellsAtHand.finish.Goals as goal
 
 pub returns-clause-within : goal.returns-clause-within
 returns-clause-within c =

@@ -1,7 +1,7 @@
 use Rattle.std.proofs.Common.{ap, ◌∙◌, map}
 use Rattle.record_store.specs.Lent.{put_back, new_write}
 use Rattle.subthread.proofs.Handy.{none_back}
-use Rattle.subthread.proofs.cells.Cells.new.Goals as goal
+use Rattle.subthread.proofs.cells.CellsAtHand.new.Goals as goal
 
 pub returns : goal.returns
 returns c = λ i. record {
