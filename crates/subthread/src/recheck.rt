@@ -7,7 +7,8 @@ use std::sync::atomic::{AtomicU64, Ordering};
 
 /// What is turned: of the summary of a walk, so that it differs from the walk, a bit of its count of steps, or a bit of the
 /// old value of a cell that it wrote; or of what it leaves at rest, a bit of the sum of a bundle, or of that of registers;
-/// or a bit of each sum of the feeds. By a refusal nothing is turned, but memory is out when two walks are compared.
+/// or a bit of each sum of the feeds; or what a file is read to is taken for another. By a refusal nothing is turned, but
+/// memory is out when two walks are compared.
 #[derive(Clone, Copy, PartialEq, Eq)]
 pub enum Disturbance {
     Steps,
@@ -15,6 +16,7 @@ pub enum Disturbance {
     BundleSum,
     RegisterSum,
     FeedSum,
+    Reading,
     Refusal,
 }
 
