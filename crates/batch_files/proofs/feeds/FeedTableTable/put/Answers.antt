@@ -1,7 +1,7 @@
 use Rattle.std.proofs.Common.{◌≡◌, ◌∙◌, length, sym, rules}
 use Rattle.csv.specs.Records.{fields_of}
 use Rattle.batch_files.proofs.FeedFacts.{put_row, too_many}
-use Rattle.batch_files.proofs.feeds.CellsTable.put.Goals as goal
+use Rattle.batch_files.proofs.feeds.FeedTableTable.put.Goals as goal
 
 pub returns-then-len-self-2 : goal.returns-then-len-self-2
 returns-then-len-self-2 c = λ begun rows (fields, room, held).

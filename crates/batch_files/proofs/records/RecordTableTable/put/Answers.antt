@@ -2,7 +2,7 @@ use Rattle.std.proofs.Common.{◌≡◌, length, get_or, None, sym, rules, SFits
 use Rattle.std.proofs.lemmas.Int.{to_z-of_z}
 use Rattle.csv.specs.Records.{fields_of}
 use Rattle.batch_files.proofs.CellFacts.{put_cell}
-use Rattle.batch_files.proofs.records.CellsTable.put.Goals as goal
+use Rattle.batch_files.proofs.records.RecordTableTable.put.Goals as goal
 
 pub returns : goal.returns
 returns c = λ begun rows held.
