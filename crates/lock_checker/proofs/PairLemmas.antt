@@ -31,8 +31,8 @@ use Rattle.std.proofs.lemmas.List.{map-append, take_more}
 use Rattle.lock_checker.proofs.ChangeLemmas.{lead_one, leads_on}
 use Rattle.lock_checker.proofs.SamePairs.{equal_bools, same_atom_is, same_pair_is, same_pair_itself, member_of, member_passes}
 use Rattle.lock_checker.specs.contracts.pair.PairOrd.TheImpl as pair_ord
-use Rattle.lock_checker.specs.contracts.pair.IndexOrd.TheImpl as index_ord
-use Rattle.lock_checker.specs.contracts.pair.IndexPartialEq.TheImpl as index_eq
+use Rattle.lock_checker.specs.contracts.pair.LockIndexOrd.TheImpl as index_ord
+use Rattle.lock_checker.specs.contracts.pair.LockIndexPartialEq.TheImpl as index_eq
 
 abbrev pub pair_cmp : Pair → Pair → Ordering
 pair_cmp = pair_ord.ghosts.cmp
