@@ -1,0 +1,90 @@
+// What the positions that are redone touch, by buckets of locations.
+
+ghost use Rattle.std.specs.Prelude.{◌≡◌, ◌<◌, ◌≤◌, All};
+ghost use Rattle.restart.specs.inner.Touching.{bucket, bucket_of, mark_of, Grows, IsMarked, KeepsMarks, IsClearPast};
+
+use gp_base::{Footprint, Loc};
+
+/// Locations fall into so many buckets.
+pub const BUCKETS: usize = 4096;
+
+/// Of each bucket, how many positions are redone up to the last that reads a location of it, and up to the last that
+/// writes one. So it is seen of most entries, without a look at those that are redone, that they are in conflict with
+/// none of them. It is a value of fixed size: a restart takes no memory.
+#[derive(Drop)]
+pub struct Touched {
+    pub reads: [u32; BUCKETS],
+    pub writes: [u32; BUCKETS],
+}
+
+// The bucket of the location of a kind with this number.
+fn bucket(kind: usize, number: u32) -> usize
+    requires { kind < 3 }
+    ensures is { result ≡ bucket kind number }
+    ensures within { result < 4096 }
+{
+    (number as usize * 3 + kind) % BUCKETS
+}
+
+// The bucket of a location. While the numbers of each kind are few, each has one of its own.
+fn bucket_of(loc: &Loc) -> usize
+    ensures is { result ≡ bucket_of loc.now }
+    ensures within { result < 4096 }
+{
+    match loc {
+        Loc::Regs(thread) => bucket(0, thread.0),
+        Loc::Lock(lock) => bucket(1, lock.0),
+        Loc::Rec(cell) => bucket(2, cell.0),
+    }
+}
+
+// Marks the buckets of the locations with this number, but for those that have a greater mark.
+fn mark_each(marks: &mut [u32; BUCKETS], locations: &[Loc], many: u32)
+    ensures marked { All (λ loc. many ≤ mark_of marks.new loc) locations.now }
+    ensures grows { Grows marks.old marks.new }
+{
+    for loc in locations {
+        let bucket = bucket_of(loc);
+        marks[bucket] = marks[bucket].max(many);
+    }
+}
+
+// The greatest mark of the locations.
+fn greatest_mark(marks: &[u32; BUCKETS], locations: &[Loc]) -> u32
+    ensures { All (λ loc. mark_of marks.now loc ≤ result) locations.now }
+{
+    let mut greatest: u32 = 0;
+    for loc in locations {
+        greatest = greatest.max(marks[bucket_of(loc)]);
+    }
+    greatest
+}
+
+impl Touched {
+    /// Nothing is redone. Takes no memory.
+    pub fn new() -> Touched {
+        Touched {
+            reads: [0; BUCKETS],
+            writes: [0; BUCKETS],
+        }
+    }
+
+    /// Marks what is touched by the last of so many that are redone.
+    pub fn mark(&mut self, foot: &Footprint, many: u32)
+        ensures marked { IsMarked self.new many foot.now }
+        ensures kept { KeepsMarks self.old self.new }
+    {
+        mark_each(&mut self.reads, foot.reads.as_slice(), many);
+        mark_each(&mut self.writes, foot.writes.as_slice(), many);
+    }
+
+    /// How many are redone up to the last that may be in conflict with the footprint.
+    pub fn last(&self, foot: &Footprint) -> u32
+        ensures { IsClearPast self.now result foot.now }
+    {
+        let writes = greatest_mark(&self.writes, foot.writes.as_slice());
+        let reads = greatest_mark(&self.writes, foot.reads.as_slice());
+        let read = greatest_mark(&self.reads, foot.writes.as_slice());
+        writes.max(reads).max(read)
+    }
+}
