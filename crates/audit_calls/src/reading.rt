@@ -14,7 +14,7 @@ ghost use Rattle.audit_calls.specs.meaning.AuditCommands.{MayRead, asking};
 ghost use Rattle.audit_calls.specs.inner.Trials.{AnswersLines, IsShort, audited_in, case_of};
 
 use crate::trial::Trial;
-use call_cases::{Refusal, read_asked, read_file, refused_input};
+use call_cases::{Reading, Refusal, read_asked, read_file, refused_input};
 use command_line::{Audited, read_audit_words};
 use gp_audit::{TraceFault, TraceLine, read_trace};
 use gp_base::{Name, Seq, Shelf, Text};
@@ -61,7 +61,7 @@ fn read_audited<H: Shelf>(alloc: Global, audited: Audited, shelf: &mut H) -> Res
     ensures audited { IfOk result (λ trial. audited_in trial ≡ audited) }
 {
     let Audited { run, trace } = audited;
-    let request = match read_asked(alloc, run, shelf) {
+    let request = match read_asked(alloc, run, shelf, Reading::Once) {
         Ok(request) => request,
         Err(refusal) => return Err(refusal),
     };

@@ -8,7 +8,7 @@ ghost use Rattle.batch_calls.specs.meaning.CkptCommands.{commands};
 
 use crate::crews::carry_out;
 use crate::reading::read_by;
-use call_cases::{Outcome, refused_outcome};
+use call_cases::{Outcome, Reading, refused_outcome};
 use command_line::read_ckpt_words;
 use gp_base::{Gate, Shelf, Sink};
 use std::thread::Threads;
@@ -44,7 +44,7 @@ pub fn ckpt_run<R: Threads + Sync + AllocGlobal, H: Shelf, O: Sink, E: Sink, G: 
     ensures unread { ckpt_by (texts words.now) ≡ None → shelf.new ≡ shelf.old }
 {
     let alloc = rt.alloc();
-    match read_by(alloc, read_ckpt_words(alloc, words), shelf) {
+    match read_by(alloc, read_ckpt_words(alloc, words), shelf, Reading::Once) {
         Ok(request) => carry_out(rt, alloc, request, Recheck::once(), out, err, gate).0,
         Err(refusal) => refused_outcome(alloc, refusal, err),
     }

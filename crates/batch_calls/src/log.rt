@@ -7,7 +7,7 @@ ghost use Rattle.call_cases.specs.meaning.Headline.{Headline};
 ghost use Rattle.batch_calls.specs.meaning.LogCommands.{commands};
 
 use crate::crews::carry_out;
-use crate::reading::read_by;
+use crate::reading::{read_by, reading_under};
 use call_cases::{Outcome, refused_outcome};
 use command_line::read_log_words;
 use gp_base::{Gate, Shelf, Sink};
@@ -39,7 +39,8 @@ pub fn log_rechecked<R: Threads + Sync + AllocGlobal, H: Shelf, O: Sink, E: Sink
     ensures unread { log_by (texts words.now) ≡ None → shelf.new ≡ shelf.old }
 {
     let alloc = rt.alloc();
-    match read_by(alloc, read_log_words(alloc, words), shelf) {
+    let reading = reading_under(&recheck);
+    match read_by(alloc, read_log_words(alloc, words), shelf, reading) {
         Ok(request) => carry_out(rt, alloc, request, recheck, out, err, gate).0,
         Err(refusal) => refused_outcome(alloc, refusal, err),
     }

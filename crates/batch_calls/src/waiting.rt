@@ -15,9 +15,9 @@ ghost use Rattle.batch_calls.specs.inner.Ways.{Writes};
 use crate::basis::{Basis, Output, Way, way_of};
 use crate::crews::carry_out;
 use crate::plan::{AskedRun, Begins, plan_of};
-use crate::reading::read_by;
+use crate::reading::{read_by, reading_under};
 use crate::run::{carry_by, unbegun};
-use call_cases::{Outcome, Request, refused_outcome};
+use call_cases::{Outcome, Reading, Request, refused_outcome};
 use command_line::{CrewKind, read_waiting_words};
 use crew::Crew;
 use gp_base::{Gate, Shelf, Sink};
@@ -174,7 +174,8 @@ pub fn run_rechecked<R: Threads + Sync + AllocGlobal, H: Shelf, O: Sink, E: Sink
     ensures unread { ReadsNothing commands (asked_waiting (texts words.now)) → shelf.new ≡ shelf.old }
 {
     let alloc = rt.alloc();
-    match read_by(alloc, read_waiting_words(alloc, words), shelf) {
+    let reading = reading_under(&recheck);
+    match read_by(alloc, read_waiting_words(alloc, words), shelf, reading) {
         Ok(request) => carry_out(rt, alloc, request, recheck, out, err, gate),
         Err(refusal) => (refused_outcome(alloc, refusal, err), recheck),
     }
@@ -206,7 +207,12 @@ pub fn gprs_run_pipe<
     ensures unread { ReadsNothing commands (asked_waiting (texts words.now)) → shelf.new ≡ shelf.old }
 {
     let alloc = rt.alloc();
-    match read_by(alloc, read_waiting_words(alloc, words), shelf) {
+    match read_by(
+        alloc,
+        read_waiting_words(alloc, words),
+        shelf,
+        Reading::Once,
+    ) {
         Ok(request) => carry_waiting(rt, request, out, err, gate),
         Err(refusal) => refused_outcome(alloc, refusal, err),
     }

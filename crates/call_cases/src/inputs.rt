@@ -13,9 +13,10 @@ ghost use Rattle.call_cases.specs.InputFiles.{named, names_in, file_names};
 ghost use Rattle.call_cases.specs.Refusals.{IsInputRefused, IsUnread, ReadsAmong, AnswersFile};
 ghost use Rattle.call_cases.specs.inner.Loading.{RefusesFile, AnswersRows, IsReadable, AreReadable, seen, StepsTo, AnswersLoad, AnswersFaults, Grows, Counts};
 
+use crate::agreed::{Reading, cells_in, feed_in};
 use crate::lines::input_line;
 use crate::reading::Refusal;
-use batch_files::{FileFault, FileKind, read_faults, read_feed, read_records};
+use batch_files::{FileFault, FileKind, read_faults};
 use gp_base::limits::{MOST_FEED_CELLS, MOST_FILE_BYTES};
 use gp_base::{Faults, Feed, Inputs, Name, Nums, Seq, Shelf, ShelfFault, Text};
 use std::alloc::{AllocError, Global};
@@ -86,6 +87,7 @@ fn record_cells<H: Shelf>(
     shelf: &mut H,
     name: &Name,
     size: u32,
+    reading: Reading,
 ) -> Result<Nums, Refusal>
     ensures kept { H.files shelf.new ≡ H.files shelf.old }
     ensures failed { ReadsAmong (name.now ∷ []) (H.failed shelf.old) (H.failed shelf.new) result }
@@ -94,7 +96,7 @@ fn record_cells<H: Shelf>(
     ensures size { IfOk result (λ cells. length cells ≡ size) }
 {
     let text = read_file(alloc, shelf, name)?;
-    match read_records(alloc, &text, size) {
+    match cells_in(alloc, &text, size, reading) {
         Ok(cells) => Ok(cells),
         Err(fault) => Err(refused_file(alloc, name, fault)),
     }
@@ -107,6 +109,7 @@ fn feed_of<H: Shelf>(
     name: &Name,
     fields: u32,
     room: u32,
+    reading: Reading,
 ) -> Result<Feed, Refusal>
     requires some_field { 0 < fields }
     requires room { room ≤ MOST_FEED_CELLS }
@@ -117,18 +120,19 @@ fn feed_of<H: Shelf>(
     ensures fields { IfOk result (λ feed. feed.fields ≡ fields) }
 {
     let text = read_file(alloc, shelf, name)?;
-    match read_feed(alloc, &text, fields, room) {
+    match feed_in(alloc, &text, fields, room, reading) {
         Ok(feed) => Ok(feed),
         Err(fault) => Err(refused_file(alloc, name, fault)),
     }
 }
 
-/// What was read so far, and how many cells of feeds there is room for.
+/// What was read so far, how many cells of feeds there is room for, and how files are read.
 #[derive(Drop)]
 pub struct Loading {
     pub records: Vec<i64>,
     pub feeds: Vec<Feed>,
     pub room: u32,
+    pub reading: Reading,
 }
 
 impl Loading {
@@ -181,7 +185,7 @@ fn load_cells<H: Shelf>(
     ensures feeds { loading.new.feeds.items ≡ loading.old.feeds.items }
     ensures room { loading.new.room ≡ loading.old.room }
 {
-    let cells = match record_cells(alloc, shelf, file, size) {
+    let cells = match record_cells(alloc, shelf, file, size, loading.reading) {
         Ok(cells) => cells,
         Err(refusal) => return Err(refusal),
     };
@@ -232,7 +236,7 @@ fn load_feed<H: Shelf>(
     ensures records { loading.new.records.items ≡ loading.old.records.items }
     ensures feeds { OnOk result (map fields_in loading.new.feeds.items ≡ map fields_in loading.old.feeds.items ++ fields ∷ []) }
 {
-    let feed = match feed_of(alloc, shelf, file, fields, loading.room) {
+    let feed = match feed_of(alloc, shelf, file, fields, loading.room, loading.reading) {
         Ok(feed) => feed,
         Err(refusal) => return Err(refusal),
     };
@@ -267,12 +271,13 @@ fn load_head<H: Shelf>(
     }
 }
 
-/// Reads the files that these heads name, in declared order. The first that can't be read, or is refused, is the
-/// answer.
+/// Reads the files that these heads name, in declared order, each so often. The first that can't be read, or is refused, is
+/// the answer.
 pub fn read_inputs<H: Shelf>(
     alloc: Global,
     shelf: &mut H,
     heads: &[Head],
+    reading: Reading,
 ) -> Result<Inputs, Refusal>
     requires { AreReadable heads.now }
     ensures kept { H.files shelf.new ≡ H.files shelf.old }
@@ -284,6 +289,7 @@ pub fn read_inputs<H: Shelf>(
         records: Vec::new(alloc),
         feeds: Vec::new(alloc),
         room: MOST_FEED_CELLS as u32,
+        reading,
     };
     for head in heads {
         match load_head(alloc, shelf, head, &mut loading) {

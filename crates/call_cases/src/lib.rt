@@ -2,6 +2,7 @@
 //! call comes to, the lines that tell how it ended, and the record of what a call is promised to do.
 #![tactic(auto)]
 
+mod agreed;
 mod cases;
 mod endings;
 mod feeds;
@@ -10,6 +11,7 @@ mod lines;
 mod reading;
 mod work;
 
+pub use agreed::Reading;
 pub use cases::{one_case, some_case};
 pub use endings::{Outcome, empty_journal, end_status, plain_outcome, refuse, refused_outcome};
 pub use feeds::copied_feeds;

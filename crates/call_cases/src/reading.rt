@@ -22,6 +22,7 @@ ghost use Rattle.call_cases.specs.declared.reading.Refusal.TheVariants.{OutOfMem
 ghost use Rattle.call_cases.specs.Decided.{IsAcceptedIn, accepted_case, case_of, IsRefusedWith, RefusesLexing, RefusesParsing, RefusesChecking, MayRun};
 ghost use Rattle.call_cases.specs.Refusals.{AnswersCase, AnswersNoCommand, ReadsAmong, RefusesCase, TouchesShelf};
 
+use crate::agreed::Reading;
 use crate::inputs::{read_inputs, read_struck};
 use crate::lines::{TOO_LONG, fault_line};
 use crate::work::{Request, runs};
@@ -147,6 +148,7 @@ fn inputs_for<H: Shelf>(
     command: Command,
     checked: &Checked,
     shelf: &mut H,
+    reading: Reading,
 ) -> Result<Inputs, Refusal>
     ensures kept { H.files shelf.new ≡ H.files shelf.old }
     ensures failed { ReadsAmong (names_for command (program_of checked.now).heads) (H.failed shelf.old) (H.failed shelf.new) result }
@@ -155,7 +157,7 @@ fn inputs_for<H: Shelf>(
     ensures inputs { runs command ≡ true → IfOk result (AreInputsOf (plain_program (program_of checked.now))) }
 {
     if runs(command) {
-        return read_inputs(alloc, shelf, checked.program().heads.as_slice());
+        return read_inputs(alloc, shelf, checked.program().heads.as_slice(), reading);
     }
     Ok(Inputs {
         records: Seq::new(alloc),
@@ -169,6 +171,7 @@ fn request_of<H: Shelf>(
     asked: Asked,
     checked: Checked,
     shelf: &mut H,
+    reading: Reading,
 ) -> Result<Request, Refusal>
     requires { IsWithinLimits asked }
     ensures kept { H.files shelf.new ≡ H.files shelf.old }
@@ -178,7 +181,7 @@ fn request_of<H: Shelf>(
     ensures sound { IfOk result MayRun }
     ensures asked { IfOk result (λ request. request.asked ≡ asked) }
 {
-    let inputs = match inputs_for(alloc, asked.command, &checked, shelf) {
+    let inputs = match inputs_for(alloc, asked.command, &checked, shelf, reading) {
         Ok(inputs) => inputs,
         Err(refusal) => return Err(refusal),
     };
@@ -201,6 +204,7 @@ pub fn read_beside<H: Shelf>(
     asked: Asked,
     text: &[u8],
     shelf: &mut H,
+    reading: Reading,
 ) -> Result<Request, Refusal>
     requires within { IsWithinLimits asked }
     requires short { length text.now ≤ MOST_PROGRAM_BYTES }
@@ -212,7 +216,7 @@ pub fn read_beside<H: Shelf>(
     ensures asked { IfOk result (λ request. request.asked ≡ asked) }
 {
     match program_in(alloc, &asked, text) {
-        Ok(checked) => request_of(alloc, asked, checked, shelf),
+        Ok(checked) => request_of(alloc, asked, checked, shelf, reading),
         Err(refusal) => Err(refusal),
     }
 }
@@ -239,7 +243,12 @@ pub fn read_program<H: Shelf>(alloc: Global, asked: &Asked, shelf: &mut H) -> Re
 
 /// What is asked, on the program that its file has, with the files that the program names, and that of the faults. The
 /// first refusal met is the answer.
-pub fn read_asked<H: Shelf>(alloc: Global, asked: Asked, shelf: &mut H) -> Result<Request, Refusal>
+pub fn read_asked<H: Shelf>(
+    alloc: Global,
+    asked: Asked,
+    shelf: &mut H,
+    reading: Reading,
+) -> Result<Request, Refusal>
     requires { IsWithinLimits asked }
     ensures kept { H.files shelf.new ≡ H.files shelf.old }
     ensures shelf { TouchesShelf MayRead (Some asked) (H.failed shelf.old) (H.failed shelf.new) result }
@@ -248,14 +257,14 @@ pub fn read_asked<H: Shelf>(alloc: Global, asked: Asked, shelf: &mut H) -> Resul
     ensures asked { IfOk result (λ request. request.asked ≡ asked) }
 {
     match read_program(alloc, &asked, shelf) {
-        Ok(text) => read_beside(alloc, asked, text.as_slice(), shelf),
+        Ok(text) => read_beside(alloc, asked, text.as_slice(), shelf, reading),
         Err(refusal) => Err(refusal),
     }
 }
 
 // What is asked, over the files that the program makes itself. All files of it are there, so none of them can fail to
 // be read.
-fn read_made(alloc: Global, asked: Asked, soak: Soak) -> Result<Request, Refusal>
+fn read_made(alloc: Global, asked: Asked, soak: Soak, reading: Reading) -> Result<Request, Refusal>
     requires within { IsWithinLimits asked }
     requires made { asked.command ≡ command.Soak soak }
     ensures shelf { (failed : List Name) → TouchesShelf MayRead (Some asked) failed failed result }
@@ -265,7 +274,7 @@ fn read_made(alloc: Global, asked: Asked, soak: Soak) -> Result<Request, Refusal
 {
     let files = soak_files(alloc, soak.moves, soak.start)?;
     let mut shelf = NeverShelf::new(alloc, files);
-    match read_asked(alloc, asked, &mut shelf) {
+    match read_asked(alloc, asked, &mut shelf, reading) {
         Err(Refusal::ReadFault(_)) => Err(Refusal::OutOfMemory),
         result => result,
     }
@@ -273,7 +282,12 @@ fn read_made(alloc: Global, asked: Asked, soak: Soak) -> Result<Request, Refusal
 
 /// What is asked, over the files of the shelf, or over those that the program makes itself. The first refusal met is
 /// the answer.
-pub fn read_for<H: Shelf>(alloc: Global, asked: Asked, shelf: &mut H) -> Result<Request, Refusal>
+pub fn read_for<H: Shelf>(
+    alloc: Global,
+    asked: Asked,
+    shelf: &mut H,
+    reading: Reading,
+) -> Result<Request, Refusal>
     requires { IsWithinLimits asked }
     ensures unread { makes_files asked.command ≡ true → shelf.new ≡ shelf.old }
     ensures shelf { TouchesShelf MayRead (Some asked) (H.failed shelf.old) (H.failed shelf.new) result }
@@ -282,9 +296,9 @@ pub fn read_for<H: Shelf>(alloc: Global, asked: Asked, shelf: &mut H) -> Result<
     ensures asked { IfOk result (λ request. request.asked ≡ asked) }
 {
     if let Command::Soak(soak) = asked.command {
-        return read_made(alloc, asked, soak);
+        return read_made(alloc, asked, soak, reading);
     }
-    read_asked(alloc, asked, shelf)
+    read_asked(alloc, asked, shelf, reading)
 }
 
 /// What the words ask for, with the program that they name and the files that the program names, or with the files that
@@ -306,5 +320,5 @@ pub fn read_request<H: Shelf>(
         Ok(None) => return Err(Refusal::Usage),
         Err(_) => return Err(Refusal::OutOfMemory),
     };
-    read_for(alloc, asked, shelf)
+    read_for(alloc, asked, shelf, Reading::Once)
 }

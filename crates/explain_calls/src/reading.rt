@@ -15,7 +15,7 @@ use crate::refused::{input_text, long_program, program_text};
 use crate::unread::{unread_file, unread_program};
 use crate::usage::usage_text;
 use crate::words::read_words;
-use call_cases::{Refusal, Request, read_beside, read_program};
+use call_cases::{Reading, Refusal, Request, read_beside, read_program};
 use command_line::Asked;
 use gp_base::{Name, Seq, Shelf, Text};
 use std::alloc::Global;
@@ -141,7 +141,7 @@ fn read_run<H: Shelf>(alloc: Global, asked: Asked, shelf: &mut H) -> Result<Read
         Ok(text) => text,
         Err(refusal) => return Err(unread(alloc, &name, refusal)),
     };
-    match read_beside(alloc, asked, text.as_slice(), shelf) {
+    match read_beside(alloc, asked, text.as_slice(), shelf, Reading::Once) {
         Ok(request) => Ok(Readied {
             request,
             source: text,

@@ -12,7 +12,7 @@ ghost use Rattle.resume_calls.specs.meaning.ResumeCommands.{MayRead, asking};
 ghost use Rattle.resume_calls.specs.inner.Halting.{MayGoOn, resumed_in, case_of};
 
 use crate::halted::Halted;
-use call_cases::{Refusal, read_asked, read_file};
+use call_cases::{Reading, Refusal, read_asked, read_file};
 use command_line::{Resumed, read_resume_words};
 use gp_base::Shelf;
 use std::alloc::Global;
@@ -27,7 +27,7 @@ fn read_resumed<H: Shelf>(alloc: Global, resumed: Resumed, shelf: &mut H) -> Res
     ensures resumed { IfOk result (λ halted. resumed_in halted ≡ resumed) }
 {
     let Resumed { run, log } = resumed;
-    let request = match read_asked(alloc, run, shelf) {
+    let request = match read_asked(alloc, run, shelf, Reading::Once) {
         Ok(request) => request,
         Err(refusal) => return Err(refusal),
     };

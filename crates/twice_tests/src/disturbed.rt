@@ -76,6 +76,9 @@ task main() {
 }
 ";
 
+const FED_TEXT: &str =
+    "output\n1\n14\n16\n18\nrecords\nrestarts\ncounts\nsubthreads 8\nrestarts 0\nredone 0\nunused 0\n";
+
 // Of a feed it is only read how many rows it has.
 const COUNTED: &str = "feed rate[2] from \"r.csv\";
 task main() {
@@ -312,6 +315,16 @@ fn a_changed_sum_of_feeds_is_told_where_a_row_is_read(rt: HostRuntime) -> Result
     answers(&rt, "", "soak 4 1 --crew one", disturbed, 1, "", line)?;
     let line = "gprs_twice: data damaged at position 0\n";
     answers(&rt, COUNTED, "run p.gp", disturbed, 1, "output\n", line)
+}
+
+// A file that is read to something else once is read a third time; where that is so twice, no two readings agree.
+#[test]
+fn files_are_read_twice(rt: HostRuntime) -> Result<(), Fail> {
+    let once = (Disturbance::Reading, 1);
+    answers(&rt, FED, "run p.gp", once, 0, FED_TEXT, "")?;
+    answers(&rt, FED, "one p.gp", once, 0, FED_TEXT, "")?;
+    let twice = (Disturbance::Reading, 2);
+    answers(&rt, FED, "run p.gp", twice, 1, "", "gprs: out of memory\n")
 }
 
 // A recheck that has the sums over a feed of ten cells, whose rows have two: a sum stands for eight cells.

@@ -16,7 +16,7 @@ ghost use Rattle.view_calls.specs.Sights.{case_of, viewed_in};
 ghost use Rattle.view_calls.specs.inner.Answers.{AnswersLines};
 
 use crate::words::{Viewed, read_words};
-use call_cases::{Refusal, Request, read_asked, read_file, refused_input};
+use call_cases::{Reading, Refusal, Request, read_asked, read_file, refused_input};
 use gp_audit::{TraceFault, TraceLine, Verdict, audit, read_trace};
 use gp_base::{Name, Seq, Shelf, Text};
 use one_thread::run_plain;
@@ -142,7 +142,7 @@ fn read_viewed<H: Shelf>(alloc: Global, viewed: Viewed, shelf: &mut H) -> Result
         position,
         trace,
     } = viewed;
-    let request = match read_asked(alloc, run, shelf) {
+    let request = match read_asked(alloc, run, shelf, Reading::Once) {
         Ok(request) => request,
         Err(refusal) => return Err(refusal),
     };
