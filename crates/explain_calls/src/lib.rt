@@ -4,6 +4,7 @@
 
 mod counts;
 mod details;
+mod file_names;
 mod first_cells;
 mod halted;
 mod handles;

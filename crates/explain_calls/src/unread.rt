@@ -3,6 +3,7 @@ ghost use Rattle.std.specs.Prelude.{◌≤◌, length, IfOk};
 ghost use Rattle.gp_base.specs.declared.limits.TheConstants.{MOST_PROGRAM_BYTES};
 ghost use Rattle.explain_calls.specs.meaning.Fronts.{IsHint};
 
+use crate::file_names::{folder_of, push_name_hints};
 use crate::refused::program_of;
 use crate::usage::program_of_command;
 use gp_base::{Name, Text};
@@ -103,6 +104,19 @@ fn push_folder(hints: &mut Vec<u8>, file: &Name) -> Result<(), AllocError> {
     }
 }
 
+// Appends in which folder a program stands, where it is not the one of the call.
+fn push_program_folder(hints: &mut Vec<u8>, program: &Name, file: &Name) -> Result<(), AllocError> {
+    let folder = folder_of(program.as_slice());
+    if folder.is_empty() || file.as_slice().starts_with(b"/") {
+        return Ok(());
+    }
+    hints.extend_from_slice(b"hint: ")?;
+    hints.extend_from_slice(program.as_slice())?;
+    hints.extend_from_slice(b" stands in ")?;
+    hints.extend_from_slice(folder)?;
+    hints.extend_from_slice(b": if its files do too, change into that folder and call it there\n")
+}
+
 // Appends that the name of a program is a command, where it is one.
 fn push_command(hints: &mut Vec<u8>, file: &Name) -> Result<(), AllocError> {
     let Some(of) = program_of_command(file.as_slice()) else {
@@ -123,6 +137,7 @@ pub fn unread_program(alloc: Global, file: &Name) -> Result<Vec<u8>, AllocError>
     hints.extend_from_slice(b"hint: it is the program of this call\n")?;
     push_command(&mut hints, file)?;
     push_folder(&mut hints, file)?;
+    push_name_hints(&mut hints, file.as_slice())?;
     with_hints(alloc, file, &hints)
 }
 
@@ -140,5 +155,7 @@ pub fn unread_file(
     let mut hints = Vec::new(alloc);
     push_naming(alloc, &mut hints, program, text, file)?;
     push_folder(&mut hints, file)?;
+    push_program_folder(&mut hints, program, file)?;
+    push_name_hints(&mut hints, file.as_slice())?;
     with_hints(alloc, file, &hints)
 }

@@ -352,12 +352,19 @@ fn push_untaken(text: &mut Vec<u8>, untaken: &Option<Untaken<'_>>) -> Result<(),
                 b": explain takes a program right away, and judges the words of `run` alone",
             )
         }
-        Some(Untaken::SecondProgram(word)) => push_word(
-            text,
-            b"`",
-            word,
-            b"` is one word too many: one program is explained",
-        ),
+        Some(Untaken::SecondProgram(word)) => {
+            push_word(
+                text,
+                b"`",
+                word,
+                b"` is one word too many: one program is explained",
+            )?;
+            if word.ends_with(b".csv") {
+                text.extend_from_slice(b", and a head of it names its files, after `from`")
+            } else {
+                Ok(())
+            }
+        }
         Some(Untaken::NoProgram) => text.extend_from_slice(b"the name of a program is missing"),
     }
 }

@@ -227,7 +227,7 @@ const PARSING: [Case; 25] = [
         b"task t() -> x {\n}\n",
         UnknownName,
         1,
-        b"p.gp:1:10: `-` cannot stand here; `{` was expected\ntask t() -> x {\n         ^\nparse 1: the first token that no program goes on with (parse 1 at byte 9)\n",
+        b"p.gp:1:10: `-` cannot stand here; `{` was expected\ntask t() -> x {\n         ^\nparse 1: the first token that no program goes on with (parse 1 at byte 9)\nhint: what a task gives back is its `$ret`: `task t(x) { .. $ret = 3; }`\n",
     ),
 ];
 

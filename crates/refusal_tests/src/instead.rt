@@ -121,7 +121,7 @@ const STATEMENTS: [Case; 48] = [
     ),
     (
         b"exit;",
-        b"`exit` is no word of the language; a variable is set by `exit = e;`",
+        b"a thread ends with its task: what is not to be done then stands in the block of an `if`",
     ),
 ];
 

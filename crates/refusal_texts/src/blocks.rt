@@ -232,7 +232,15 @@ impl<'a> Place<'a> {
         if let Some(closing) = blocks.moved {
             push_closing(&mut text, closing)?;
         }
+        if self.is_inner_task() && !blocks.open.is_empty() {
+            text.extend_from_slice(b"hint: no task stands inside of another\n")?;
+        }
         Ok(text)
+    }
+
+    // Whether a task begins here that is indented.
+    fn is_inner_task(&self) -> bool {
+        self.token().is_some() && self.indent(self.number) > 0
     }
 
     /// The hint where a control statement stands in an arm of a `when`, and no deeper than the line that begins the arm:

@@ -11,6 +11,8 @@ use task_parser::Kind;
 
 const INDEX: &[u8] = b"an index here is a number or a control variable: `k = i + 1; lock l[k];`";
 
+const ONLY_READ: &[u8] = b"a feed is only read: `$x = f[i, 0];`";
+
 /// What is told where a size or an index is to stand.
 pub const BRACKETS: &[u8] = b"a size and an index stand between `[` and `]`";
 
@@ -27,7 +29,7 @@ impl<'a> Spot<'a> {
         if kind == READ {
             Some(b"a cell of a feed stands in an expression: `$x = f[i, 0];`")
         } else if kind == WRITE {
-            Some(b"a feed is only read: `$x = f[i, 0];`")
+            Some(ONLY_READ)
         } else {
             None
         }
@@ -65,13 +67,22 @@ impl<'a> Spot<'a> {
                 b"a cell of a record is read by `read r[i] into $x;`; one of a feed has a row and a field, as `f[i, 0]`",
             ))
         } else if kind == OPEN_BRACKET && self.wants(ASSIGN) {
-            Some(Hint::Fixed(b"a cell of a record is written by `write r[i] = e;`"))
+            Some(Hint::Fixed(self.set_hint()))
         } else if kind == OPEN_BRACKET && self.kind_before() == Some(CLOSE_BRACKET) {
             Some(Hint::Fixed(ONE_INDEX))
         } else if kind == OPEN_BRACKET && self.wants(SEMICOLON) {
             Some(Hint::Fixed(b"write `barrier b;`"))
         } else {
             None
+        }
+    }
+
+    // A cell that stands where a variable is set.
+    fn set_hint(&self) -> &'static [u8] {
+        if self.is_feed(self.bytes(self.back(1))) {
+            ONLY_READ
+        } else {
+            b"a cell of a record is written by `write r[i] = e;`"
         }
     }
 

@@ -6,7 +6,7 @@ ghost use Rattle.refusal_texts.specs.Refusals.{kind_number, IsCheckRefusal};
 use crate::front::{Rule, push_refusal};
 use crate::hints::check_hints;
 use crate::messages::push_message;
-use crate::subjects::subject_token;
+use crate::subjects::{Subject, push_apart, subject_token};
 use gp_base::{Name, Seq};
 use rule_blame::{Blame, Told, blame};
 use std::alloc::{AllocError, Global};
@@ -102,28 +102,48 @@ fn has_one_block(told: &Told<'_>) -> bool {
 }
 
 // The message of a blame, or what can be said without one.
-fn message_of(alloc: Global, told: &Option<Told<'_>>) -> Result<Vec<u8>, AllocError> {
+fn message_of(
+    alloc: Global,
+    program: &Program,
+    told: &Option<Told<'_>>,
+) -> Result<Vec<u8>, AllocError> {
     let mut text = Vec::new(alloc);
     match told {
-        Some(told) => push_message(&mut text, &told.blame, has_one_block(told))?,
+        Some(told) => push_message(&mut text, program, &told.blame, has_one_block(told))?,
         None => text.extend_from_slice(b"a rule of the check is broken in this line")?,
     }
     Ok(text)
 }
 
-// The token that is told of, by its number, where it is found.
+// The token that is told of, where it is found.
 fn subject_of(
     alloc: Global,
     source: (&[u8], &Seq<Token>),
     program: &Program,
     told: &Option<Told<'_>>,
     line: u32,
-) -> Result<Option<usize>, AllocError> {
+) -> Result<Subject, AllocError> {
     let (bytes, tokens) = source;
     match told {
         Some(told) => subject_token(alloc, program, (bytes, tokens.as_slice()), told, line),
-        None => Ok(None),
+        None => Ok(Subject::at(None)),
     }
+}
+
+// The hints, and before them where the token stands that is told of, if it is in another line.
+fn hints_of(
+    alloc: Global,
+    source: (&[u8], &Seq<Token>),
+    program: &Program,
+    kind: CheckKind,
+    told: &Option<Told<'_>>,
+    subject: Subject,
+) -> Result<Vec<u8>, AllocError> {
+    let (bytes, tokens) = source;
+    let mut text = Vec::new(alloc);
+    push_apart(&mut text, bytes, tokens.as_slice(), subject)?;
+    text.extend_from_slice(&check_hints(alloc, program, kind, told)?)?;
+    Ok(text)
 }
 
 /// Appends why a program breaks a rule of the check in a line: its name, the place, what is said of that line, the line
@@ -142,10 +162,10 @@ pub fn push_check_refusal(
 {
     let (bytes, tokens) = source;
     let told = blame(alloc, program, kind, line);
-    let message = message_of(alloc, &told)?;
+    let message = message_of(alloc, program, &told)?;
     let subject = subject_of(alloc, source, program, &told, line)?;
-    let hints = check_hints(alloc, program, kind, &told)?;
-    let at = shown_at(tokens.as_slice(), line, subject, &told);
+    let hints = hints_of(alloc, source, program, kind, &told, subject)?;
+    let at = shown_at(tokens.as_slice(), line, subject.shown, &told);
     let rule = Rule {
         kind: b"check",
         number: kind_number(kind),

@@ -97,6 +97,15 @@ fn line_hint(row: &ByteRecord, number: u32) -> Option<&'static [u8]> {
     }
 }
 
+// What a row of the file is to be.
+fn row_form(used: FileUse<'_>) -> Option<&'static [u8]> {
+    match used {
+        FileUse::Record { .. } => Some(b"a row of a record's file is index,value"),
+        FileUse::Faults => Some(b"a row of a list of faults is position,attempt,delay,mask"),
+        FileUse::Feed { .. } => None,
+    }
+}
+
 // What is told of a row with another number of fields.
 fn count_hint(row: &ByteRecord, used: FileUse<'_>) -> Option<&'static [u8]> {
     let (count, wanted) = (row.len() as u64, fields_of(used));
@@ -109,8 +118,6 @@ fn count_hint(row: &ByteRecord, used: FileUse<'_>) -> Option<&'static [u8]> {
         )
     } else if count == 1 && has_byte(last, b' ') {
         Some(b"fields stand between commas, and not between blanks")
-    } else if count == 1 && matches!(used, FileUse::Record { .. }) {
-        Some(b"a row of a record's file is index,value")
     } else {
         None
     }
@@ -127,8 +134,11 @@ fn push_count_hint(text: &mut Vec<u8>, refused: Refused<'_>) -> Result<(), Alloc
     if refused.row.len() == 1 && push_odd_in(text, bytes_in(refused.row, 0))? {
         return Ok(());
     }
-    match count_hint(refused.row, refused.used) {
-        Some(hint) => push_told(text, hint),
+    if let Some(hint) = count_hint(refused.row, refused.used) {
+        return push_told(text, hint);
+    }
+    match row_form(refused.used) {
+        Some(form) => push_told(text, form),
         None => Ok(()),
     }
 }
@@ -170,10 +180,21 @@ fn value_hint(refused: Refused<'_>) -> Option<&'static [u8]> {
     }
 }
 
+// Whether a file is that of a table program, or is packed.
+fn is_workbook(bytes: &[u8]) -> bool {
+    bytes.starts_with(b"PK\x03\x04") || bytes.starts_with(b"\xd0\xcf\x11\xe0")
+}
+
 /// Appends a hint on a row that is refused, where there is one.
 pub fn push_row_hint(text: &mut Vec<u8>, refused: Refused<'_>) -> Result<(), AllocError> {
     if is_utf_16(refused.bytes) {
         return push_told(text, UTF_16);
+    }
+    if is_workbook(refused.bytes) {
+        return push_told(
+            text,
+            b"the file is a workbook, or is packed: save its sheet as CSV, text with commas",
+        );
     }
     match (refused.kind, bad_field(refused.row)) {
         (FileKind::Fields, _) => push_count_hint(text, refused),

@@ -29,6 +29,9 @@ const THROWN: &[u8] = b"there are no exceptions: an `if` tests before, and a `pr
 const CELLS: &[u8] =
     b"cells that are written are a record under its locks: `lock l[4]; record r[4] by l;`";
 
+const ENDED: &[u8] =
+    b"a thread ends with its task: what is not to be done then stands in the block of an `if`";
+
 const RESULT: &[u8] = b"write `$ret = 3;` as the last statement; the others go into an `if`";
 
 /// What is told where a block does not begin as it has to.
@@ -37,7 +40,7 @@ pub const BLOCK: &[u8] = b"a block stands between `{` and `}`";
 const CLOSED: &[u8] = b"a block ends with `}`";
 
 // Words that begin what is a statement in other languages.
-const BEGINNINGS: [Row; 79] = [
+const BEGINNINGS: [Row; 83] = [
     (b"for", LOOP),
     (b"foreach", LOOP),
     (b"loop", LOOP),
@@ -114,6 +117,10 @@ const BEGINNINGS: [Row; 79] = [
     (b"break", LEFT),
     (b"continue", LEFT),
     (b"return", RESULT),
+    (b"exit", ENDED),
+    (b"halt", ENDED),
+    (b"stop", ENDED),
+    (b"quit", ENDED),
     (b"begin", BLOCK),
     (b"end", CLOSED),
     (b"endif", CLOSED),
@@ -209,7 +216,7 @@ fn told_in(table: &[Row], word: &[u8]) -> Option<&'static [u8]> {
 
 /// What is written in place of a statement that begins with this word.
 pub fn beginning(word: &[u8]) -> Option<&'static [u8]> {
-    let table: [Row; 79] = BEGINNINGS;
+    let table: [Row; 83] = BEGINNINGS;
     told_in(&table, word)
 }
 

@@ -1,7 +1,8 @@
 // Hints on heads, and on what is to follow a name or a word.
 
 use crate::cell_hints::{BRACKETS, SIZE};
-use crate::spots::{ASSIGN, BY, COMMA, OPEN_BRACKET, OPEN_PAREN, Spot, TASK, VAR};
+use crate::mark_hints::WRITTEN;
+use crate::spots::{ASSIGN, BY, COMMA, FEED, OPEN_BRACKET, OPEN_PAREN, Spot, TASK, VAR};
 use crate::told_hints::Hint;
 use task_parser::Kind;
 
@@ -11,10 +12,14 @@ impl<'a> Spot<'a> {
         let kind = self.kind()?;
         if self.wants(BY) {
             Some(b"a record stands under the lock array that guards it: `record r[4] by l;`")
-        } else if self.kinds.len() == 1 && self.has(Kind::Num(1)) && kind == Kind::Name {
+        } else if self.wants(Kind::Num(1)) && matches!(kind, Kind::Name | Kind::Mark(1 | 3)) {
             Some(SIZE)
         } else if self.wants(TASK) && matches!(kind, Kind::Word(0 | 2 | 3 | 6)) {
             Some(b"heads stand before all tasks")
+        } else if self.has(TASK) && matches!(kind, Kind::Num(_)) {
+            Some(
+                b"a program begins with a head or a task; a file of rows is named in a head, after its `from`",
+            )
         } else if self.has(TASK) && kind == VAR {
             Some(b"variables are those of a task: `task main() { var i; .. }`")
         } else if self.has(TASK)
@@ -32,7 +37,9 @@ impl<'a> Spot<'a> {
     pub fn follow_hint(&self) -> Option<Hint<'a>> {
         let before = self.kind_before()?;
         if self.wants(OPEN_BRACKET) {
-            Some(Hint::Fixed(BRACKETS))
+            Some(Hint::Fixed(self.brackets()))
+        } else if self.wants(ASSIGN) && self.is_written() {
+            Some(Hint::Fixed(WRITTEN))
         } else if self.wants(OPEN_PAREN) && before == Kind::Word(23) {
             Some(Hint::Fixed(b"`rows(f)` is the number of rows of feed f"))
         } else if self.wants(OPEN_PAREN) {
@@ -43,6 +50,16 @@ impl<'a> Spot<'a> {
             Some(Hint::Fixed(b"names stand between commas, and without a type"))
         } else {
             None
+        }
+    }
+
+    // What stands in brackets after a name.
+    fn brackets(&self) -> &'static [u8] {
+        match self.back(2) {
+            Some(token) if token.kind == FEED => {
+                b"a feed has the number of its fields after its name: `feed f[2] from \"f.csv\";`"
+            }
+            _ => BRACKETS,
         }
     }
 

@@ -1,10 +1,12 @@
 // What to write instead in a line that breaks a rule of the check: names that are nearly declared, how data may decide.
 ghost use Rattle.std.specs.Prelude.{◌≤◌, length};
 
+use crate::counts::{push_lock_head, push_main_starts, push_takes};
 use crate::data_names::names_data;
-use crate::foreign::value;
-use crate::pieces::{push_between, push_words};
-use crate::spelling::{push_name, push_taken};
+use crate::lock_hints::push_lock_hints;
+use crate::pieces::push_words;
+use crate::spelling::push_name;
+use crate::unknown_hints::{push_no_array, push_no_main, push_unknown};
 use gp_base::Name;
 use rule_blame::{Blame, Role, Told};
 use std::alloc::{AllocError, Global};
@@ -22,8 +24,8 @@ pub fn hint_line(alloc: Global, hint: Option<&[u8]>) -> Result<Vec<u8>, AllocErr
     Ok(text)
 }
 
-// Appends a line that tells a name which is declared.
-fn push_declared(text: &mut Vec<u8>, role: Role, name: &Name) -> Result<(), AllocError> {
+/// Appends a line that tells a name which is declared.
+pub fn push_declared(text: &mut Vec<u8>, role: Role, name: &Name) -> Result<(), AllocError> {
     text.extend_from_slice(b"hint: ")?;
     push_name(text, role, name)?;
     text.extend_from_slice(b" is declared\n")
@@ -52,8 +54,8 @@ fn end_alike(one: &[u8], other: &[u8]) -> usize {
     count
 }
 
-// Whether two names differ by two bytes in a row at most, and have some byte alike.
-fn is_near(one: &[u8], other: &[u8]) -> bool {
+/// Whether two names differ by two bytes in a row at most, and have some byte alike.
+pub fn is_near(one: &[u8], other: &[u8]) -> bool {
     let longer = one.len().max(other.len());
     let shorter = one.len().min(other.len());
     let alike = front_alike(one, other)
@@ -101,8 +103,8 @@ fn push_near_variable(
     Ok(false)
 }
 
-// The name of a head, where it is of the role.
-fn head_name(head: &Head, role: Role) -> Option<&Name> {
+/// The name of a head, where it is of the role.
+pub fn head_name(head: &Head, role: Role) -> Option<&Name> {
     match head {
         Head::LockHead { name, .. } => if role == Role::LockArray {
             Some(name)
@@ -123,8 +125,8 @@ fn head_name(head: &Head, role: Role) -> Option<&Name> {
     }
 }
 
-// Appends the first head of the role that is near a name.
-fn push_near_head(
+/// Appends the first head of the role that is near a name.
+pub fn push_near_head(
     text: &mut Vec<u8>,
     heads: &[Head],
     role: Role,
@@ -168,8 +170,8 @@ fn push_near_in(
     Ok(false)
 }
 
-// Appends what of the role is near a name.
-fn push_near(
+/// Appends what of the role is near a name.
+pub fn push_near(
     text: &mut Vec<u8>,
     program: &Program,
     role: Role,
@@ -183,133 +185,27 @@ fn push_near(
     }
 }
 
-// What a head declares.
-fn kind_of(head: &Head) -> &'static [u8] {
-    match head {
-        Head::LockHead { .. } => b" is a lock array\n",
-        Head::BarrierHead { .. } => b" is a barrier\n",
-        Head::RecHead { .. } => b" is a record\n",
-        Head::FeedHead { .. } => b" is a feed\n",
-    }
-}
-
-// Whether a head has this name, whatever it declares.
-fn is_named(head: &Head, name: &Name) -> bool {
-    let roles: [Role; 4] = [Role::LockArray, Role::Barrier, Role::Record, Role::Feed];
-    for role in &roles {
-        if let Some(other) = head_name(head, *role) {
-            if other.as_slice() == name.as_slice() {
-                return true;
-            }
-        }
-    }
-    false
-}
-
-// What is told of a task that stands where this is needed.
-fn told_of_task(role: Role) -> &'static [u8] {
-    if role == Role::Control {
-        b" is a task: the variable after the `into` of a fork is the number of its thread\n"
-    } else {
-        b" is a task\n"
-    }
-}
-
-// Appends what else the name is declared as among the heads and the tasks.
-fn push_other_role(
-    text: &mut Vec<u8>,
-    program: &Program,
-    role: Role,
-    name: &Name,
-) -> Result<bool, AllocError> {
-    for head in program.heads.as_slice() {
-        if is_named(head, name) {
-            push_words(text, b"hint: ", name.as_slice(), kind_of(head))?;
-            return Ok(true);
-        }
-    }
-    for task in program.tasks.as_slice() {
-        if task.name.as_slice() == name.as_slice() {
-            push_words(text, b"hint: ", name.as_slice(), told_of_task(role))?;
-            return Ok(true);
-        }
-    }
-    Ok(false)
-}
-
-// Appends how a variable is declared.
-fn push_declaring(text: &mut Vec<u8>, role: Role, name: &Name) -> Result<(), AllocError> {
-    text.extend_from_slice(b"hint: `var ")?;
-    push_name(text, role, name)?;
-    text.extend_from_slice(b";` before the first statement of the task declares it\n")
-}
-
-// Appends what to write in place of a name that isn't declared as what its place needs.
-fn push_unknown(
-    text: &mut Vec<u8>,
-    program: &Program,
-    role: Role,
-    name: &Name,
-    task: &Name,
-) -> Result<(), AllocError> {
-    if let Some(hint) = value(name.as_slice()) {
-        return push_words(text, b"hint: ", hint, b"\n");
-    }
-    if role != Role::Data && push_other_role(text, program, role, name)? {
-        return Ok(());
-    }
-    if push_near(text, program, role, name, task)? {
-        return Ok(());
-    }
-    match role {
-        Role::Control | Role::Data => push_declaring(text, role, name),
-        _ => Ok(()),
-    }
-}
-
-// Appends what to write in place of the lock array of a record.
-fn push_no_array(text: &mut Vec<u8>, program: &Program, array: &Name) -> Result<(), AllocError> {
-    if !push_other_role(text, program, Role::LockArray, array)? {
-        push_near_head(text, program.heads.as_slice(), Role::LockArray, array)?;
-    }
-    Ok(())
-}
-
-// Appends the locks that are held.
-fn push_held(text: &mut Vec<u8>, told: &Told<'_>) -> Result<(), AllocError> {
-    text.extend_from_slice(b"held here: ")?;
-    if told.held.is_empty() {
-        text.extend_from_slice(b"nothing")?;
-    }
-    for (at, taken) in told.held.as_slice().iter().enumerate() {
-        if at > 0 {
-            text.extend_from_slice(b", ")?;
-        }
-        push_taken(text, taken)?;
-        push_between(text, b" (taken in line ", u64::from(taken.line), b")")?;
-    }
-    text.extend_from_slice(b"\n")
-}
-
-// Whether a statement is an `if` with the data variable in its condition.
-fn is_condition(told: &Told<'_>, name: &Name) -> bool {
-    match told.statement {
-        Some(statement) => match statement.what {
-            What::If(condition, _, _) => names_data(condition, name),
-            _ => false,
+// What stands before the settle in a hint on data that decides: what else the statement can do.
+fn other_way(told: &Told<'_>, name: &Name) -> &'static [u8] {
+    let Some(statement) = told.statement else {
+        return b"";
+    };
+    match statement.what {
+        What::If(condition, _, _) => if names_data(condition, name) {
+            b"`when` in place of `if` decides by data about statements on data; "
+        } else {
+            b""
         },
-        None => false,
+        What::Fork(_, _, _) => b"a parameter with a `$` takes data; ",
+        What::Join(_, _) => b"`fork t() into h;` gives the number of a thread; ",
+        _ => b"",
     }
 }
 
 // Appends how data may decide: by a `when`, where it stands in the condition of an `if`, and by a settle.
 fn push_ways(text: &mut Vec<u8>, told: &Told<'_>, name: &Name) -> Result<(), AllocError> {
     text.extend_from_slice(b"hint: ")?;
-    if is_condition(told, name) {
-        text.extend_from_slice(
-            b"`when` in place of `if` decides by data about statements on data; ",
-        )?;
-    }
+    text.extend_from_slice(other_way(told, name))?;
     push_words(
         text,
         b"`settle $",
@@ -329,13 +225,15 @@ pub fn check_hints(
     let Some(told) = told else {
         return Ok(text);
     };
-    if kind == CheckKind::NotHeld {
-        push_held(&mut text, told)?;
-    }
+    push_lock_hints(&mut text, program, kind, told)?;
     match told.blame {
+        Blame::NoMain => push_no_main(&mut text, program)?,
         Blame::Unknown { role, name, task } => push_unknown(&mut text, program, role, name, task)?,
         Blame::NoArray { array } => push_no_array(&mut text, program, array)?,
         Blame::Data { name } => push_ways(&mut text, told, name)?,
+        Blame::MainTakes => push_main_starts(&mut text)?,
+        Blame::Counts { task, .. } => push_takes(&mut text, program, task)?,
+        Blame::Sizes { array, other, .. } => push_lock_head(&mut text, program, array, other)?,
         _ => {}
     }
     Ok(text)

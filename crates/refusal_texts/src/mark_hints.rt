@@ -2,9 +2,9 @@
 
 use crate::hints::COMMENT;
 use crate::spots::{
-    ASSIGN, CLOSE_BLOCK, CLOSE_BRACKET, CLOSE_PAREN, COMMA, EQUAL, FORK, GREATER, JOIN, LESS,
-    MINUS, PERCENT, PLUS, PRINT, READ, SEMICOLON, SLASH, Spot, TASK, WRITE, is_arithmetic,
-    is_comparison,
+    ASSIGN, BARRIER, CLOSE_BLOCK, CLOSE_BRACKET, CLOSE_PAREN, COMMA, EQUAL, FORK, GREATER, JOIN,
+    LESS, LOCK, MINUS, OPEN_BLOCK, PERCENT, PLUS, PRINT, READ, SEMICOLON, SLASH, Spot, TASK,
+    UNLOCK, WRITE, is_arithmetic, is_comparison,
 };
 use task_parser::Kind;
 
@@ -13,6 +13,9 @@ pub const ONE_INDEX: &[u8] =
     b"a lock and a cell of a record have one index: `k = 10 * i + j; read r[k] into $x;`";
 
 const ONE_VARIABLE: &[u8] = b"one statement sets one variable: write two, as `n = 3; i = n;`";
+
+/// How a cell of a record is written.
+pub const WRITTEN: &[u8] = b"write `write r[i] = e;`";
 
 /// What is told of a number with something else in it.
 pub const DIGITS: &[u8] = b"a number has digits alone, as `1000`";
@@ -75,8 +78,8 @@ impl<'a> Spot<'a> {
             && self.is_joined_after()
     }
 
-    // Whether the token before this one is the `]` of what a `write` sets.
-    fn is_written(&self) -> bool {
+    /// Whether the token before this one is the `]` of what a `write` sets.
+    pub fn is_written(&self) -> bool {
         self.is_in(WRITE) && self.kind_before() == Some(CLOSE_BRACKET)
     }
 
@@ -115,15 +118,22 @@ impl<'a> Spot<'a> {
                 b"no `+` stands before a number: leave it out",
             ),
             Kind::Mark(17) if is_doubled => Some(b"there is no power: write `a * a`"),
+            Kind::Mark(16) if self.wants(OPEN_BLOCK) && self.kind_after() == Some(GREATER) => {
+                Some(b"what a task gives back is its `$ret`: `task t(x) { .. $ret = 3; }`")
+            }
             _ => None,
         }
     }
 
-    // A `;` that can't stand: after a block, or after two minuses.
+    // A `;` that can't stand: after a block or before one, after another, or after two minuses.
     fn end_hint(&self) -> Option<&'static [u8]> {
         let is_after_minus = matches!(self.back(2), Some(token) if token.kind == MINUS);
         if self.kind_before() == Some(CLOSE_BLOCK) {
             Some(b"no `;` stands after a block")
+        } else if self.kind_before() == Some(SEMICOLON) {
+            Some(b"one `;` is enough: the second has to go")
+        } else if self.has(OPEN_BLOCK) {
+            Some(b"no `;` stands before a block")
         } else if self.kind_before() == Some(MINUS) && is_after_minus {
             Some(changed(MINUS))
         } else if self.kind_before() == Some(PERCENT) {
@@ -177,18 +187,36 @@ impl<'a> Spot<'a> {
     fn comma_hint(&self) -> Option<&'static [u8]> {
         if self.wants(CLOSE_BRACKET) {
             Some(ONE_INDEX)
-        } else if self.wants(ASSIGN) && self.kind_before() == Some(Kind::Name) {
+        } else if self.wants(ASSIGN) && matches!(self.kind_before(), Some(Kind::Name | Kind::Reg)) {
             Some(ONE_VARIABLE)
         } else if self.wants(ASSIGN) {
-            Some(b"write `write r[i] = e;`")
+            Some(WRITTEN)
         } else if self.has(CLOSE_PAREN) && self.is_in(PRINT) {
             Some(b"no parentheses around several values: write `print e, g;`")
         } else if self.is_inside_number() {
             Some(DIGITS)
-        } else if self.has(SEMICOLON) && self.is_in(JOIN) {
-            Some(b"each thread has a `join` of its own: `join g; join h;`")
+        } else if self.has(SEMICOLON) {
+            self.listed_hint()
         } else {
             None
+        }
+    }
+
+    // A comma after what stands alone in its head or its statement.
+    fn listed_hint(&self) -> Option<&'static [u8]> {
+        if !self.is_after_task() {
+            return Some(b"a head declares one name: `lock a[4]; lock b[2];`");
+        }
+        match self.first()?.kind {
+            JOIN => Some(b"each thread has a `join` of its own: `join g; join h;`"),
+            FORK => Some(b"each thread has a `fork` of its own: `fork t(1); fork t(2);`"),
+            LOCK | UNLOCK => Some(b"each lock has a statement of its own: `lock l[0]; lock l[1];`"),
+            BARRIER => Some(b"each barrier has a statement of its own: `barrier a; barrier b;`"),
+            READ | WRITE => Some(
+                b"each cell has a statement of its own: `read r[0] into $x; read r[1] into $y;`",
+            ),
+            Kind::Name | Kind::Reg => Some(ONE_VARIABLE),
+            _ => None,
         }
     }
 }

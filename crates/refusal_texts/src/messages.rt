@@ -1,10 +1,12 @@
 // What is said of a line that breaks a rule of the check.
 
+use crate::counts::{push_main_takes, push_no_size};
 use crate::pieces::{push_between, push_words};
 use crate::spelling::{push_cell, push_name, push_taken};
 use gp_base::Name;
 use rule_blame::{Blame, Many, Role, Taken};
 use std::alloc::AllocError;
+use task_ast::Program;
 
 // Appends that a name isn't declared as what its place needs.
 fn push_unknown(
@@ -152,9 +154,10 @@ fn push_lock_message(
     }
 }
 
-/// Appends what is said of a line that breaks a rule, whose first `if` has one block alone, or not.
+/// Appends what is said of a line of a program that breaks a rule, whose first `if` has one block alone, or not.
 pub fn push_message(
     text: &mut Vec<u8>,
+    program: &Program,
     blame: &Blame<'_>,
     one_block: bool,
 ) -> Result<(), AllocError> {
@@ -169,8 +172,8 @@ pub fn push_message(
             first,
         } => push_twice(text, role_of(*dollar), name, *first),
         Blame::Return => text.extend_from_slice(b"$ret is declared by each task, and here"),
-        Blame::NoSize { name } => push_words(text, b"the size of ", name.as_slice(), b" is 0"),
-        Blame::MainTakes => text.extend_from_slice(b"main has parameters"),
+        Blame::NoSize { name } => push_no_size(text, program, name),
+        Blame::MainTakes => push_main_takes(text, program),
         Blame::Data { name } => push_words(
             text,
             b"$",

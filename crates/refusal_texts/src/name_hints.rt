@@ -1,7 +1,7 @@
 // Hints on names and on what stands in quotes.
 
-use crate::mark_hints::DIGITS;
-use crate::spots::{FORK, INTO, PRINT, READ, Spot};
+use crate::mark_hints::{DIGITS, WRITTEN};
+use crate::spots::{FORK, INTO, JOIN, PRINT, READ, SETTLE, Spot, WRITE};
 use task_parser::Kind;
 
 impl<'a> Spot<'a> {
@@ -14,6 +14,8 @@ impl<'a> Spot<'a> {
             Some(b"a fork gives the number of its thread: `fork t() into h; join h into $x;`")
         } else if kind == Kind::Reg && self.kind_before() == Some(READ) {
             Some(b"write `read r[i] into $x;`")
+        } else if kind == Kind::Reg && self.kind_before() == Some(WRITE) {
+            Some(WRITTEN)
         } else if kind == Kind::Reg && self.wants(Kind::Name) {
             Some(b"control variables, arrays, barriers and tasks are named without a `$`")
         } else if kind == Kind::Name
@@ -37,12 +39,13 @@ impl<'a> Spot<'a> {
     // A control variable for what is given back or read.
     fn given_hint(&self) -> Option<&'static [u8]> {
         match self.first()?.kind {
-            Kind::Word(14) => Some(
+            JOIN => Some(
                 b"what a thread gives back is data: `join h into $x;`, and `settle $x into c;` makes it a control value",
             ),
-            Kind::Word(15) => Some(
+            READ => Some(
                 b"what is read is data: `read r[i] into $x;`, and `settle $x into c;` makes it a control value",
             ),
+            SETTLE => Some(b"a settle makes data a control value: `settle $x into c;`"),
             _ => Some(b"data stands in a variable with a `$`: `into $x`"),
         }
     }

@@ -39,6 +39,10 @@ pub const PERCENT: Kind = Kind::Mark(19);
 
 pub const LOCK: Kind = Kind::Word(0);
 
+pub const UNLOCK: Kind = Kind::Word(1);
+
+pub const BARRIER: Kind = Kind::Word(2);
+
 pub const BY: Kind = Kind::Word(4);
 
 pub const FEED: Kind = Kind::Word(6);
@@ -64,6 +68,8 @@ pub const WRITE: Kind = Kind::Word(16);
 pub const PRINT: Kind = Kind::Word(17);
 
 pub const WHEN: Kind = Kind::Word(18);
+
+pub const SETTLE: Kind = Kind::Word(24);
 
 /// A token that can't stand where it does, and what could stand there.
 #[derive(Clone, Copy)]

@@ -2,8 +2,8 @@
 
 use crate::foreign::BLOCK;
 use crate::spots::{
-    CLOSE_BLOCK, CLOSE_PAREN, COMMA, ELSE, FORK, LOCK, OPEN_BLOCK, OPEN_BRACKET, PLUS, PRINT, READ,
-    SEMICOLON, Spot, TASK, is_control,
+    CLOSE_BLOCK, CLOSE_BRACKET, CLOSE_PAREN, COMMA, ELSE, FORK, LOCK, OPEN_BLOCK, OPEN_BRACKET,
+    PLUS, PRINT, READ, SEMICOLON, Spot, TASK, is_control,
 };
 use crate::told_hints::Hint;
 use std::alloc::{AllocError, Global};
@@ -19,8 +19,10 @@ impl<'a> Spot<'a> {
             Some(Hint::NoEnd(before.line))
         } else if self.has(SEMICOLON) && kind == Some(CLOSE_BLOCK) {
             Some(Hint::Fixed(b"a statement ends with `;`"))
-        } else if self.has(CLOSE_PAREN) && self.has(PLUS) && is_end {
+        } else if self.has(CLOSE_PAREN) && is_end {
             Some(Hint::Fixed(b"a `(` is not closed"))
+        } else if self.has(CLOSE_BRACKET) && is_end {
+            Some(Hint::Fixed(b"a `[` is not closed"))
         } else if self.has(OPEN_BLOCK)
             && kind != Some(SEMICOLON)
             && (!self.is_beside() || self.begins_statement())

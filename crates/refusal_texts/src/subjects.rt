@@ -1,11 +1,27 @@
 // The token that a blame is about.
 
+use crate::pieces::{push_between, push_words};
 use gp_base::Name;
 use rule_blame::{Blame, Numbered, Role, Told, Use, push_uses};
 use std::alloc::{AllocError, Global};
 use task_ast::Program;
 use task_parser::{Kind, Token};
 use text_places::bytes_of;
+
+/// The token that is shown, by its number, if one is; and that of the name which a blame is about, where it stands in another
+/// line.
+#[derive(Clone, Copy)]
+pub struct Subject {
+    pub shown: Option<usize>,
+    apart: Option<usize>,
+}
+
+impl Subject {
+    /// A token, or none.
+    pub fn at(shown: Option<usize>) -> Subject {
+        Subject { shown, apart: None }
+    }
+}
 
 // What a name is declared as: a head or a task, or a variable of a task; or it is the lock array that a record names.
 #[derive(Clone, Copy, PartialEq, Eq)]
@@ -215,41 +231,58 @@ fn token_of_statement(
     blame: &Blame<'_>,
     statement: Numbered<'_>,
     line: u32,
-) -> Result<Option<usize>, AllocError> {
+) -> Result<Subject, AllocError> {
     let Some(start) = statement_start(tokens, statement.number) else {
-        return Ok(None);
+        return Ok(Subject::at(None));
     };
     if is_whole(blame) {
-        return Ok(Some(start));
+        return Ok(Subject::at(Some(start)));
     }
     let Some(number) = use_number(alloc, program, statement, blame)? else {
-        return Ok(Some(start));
+        return Ok(Subject::at(Some(start)));
     };
     let Some(at) = name_token(tokens, start, number) else {
-        return Ok(Some(start));
+        return Ok(Subject::at(Some(start)));
     };
     match tokens.get(at) {
-        Some(token) if token.line == line => Ok(Some(at)),
-        _ => Ok(Some(start)),
+        Some(token) if token.line == line => Ok(Subject::at(Some(at))),
+        _ => Ok(Subject {
+            shown: Some(start),
+            apart: Some(at),
+        }),
     }
 }
 
-/// The token that a blame is about in a line, by its number, where it is found. The error is that memory is out.
+/// Appends in which line the name stands that a blame is about, where it is not the one that is shown.
+pub fn push_apart(
+    text: &mut Vec<u8>,
+    program: &[u8],
+    tokens: &[Token],
+    subject: Subject,
+) -> Result<(), AllocError> {
+    let Some(token) = tokens.get(subject.apart.unwrap_or(tokens.len())) else {
+        return Ok(());
+    };
+    push_words(text, b"hint: ", bytes_of(program, token), b" stands in ")?;
+    push_between(text, b"line ", u64::from(token.line), b"\n")
+}
+
+/// The token that a blame is about in a line, where it is found. The error is that memory is out.
 pub fn subject_token(
     alloc: Global,
     program: &Program,
     source: (&[u8], &[Token]),
     told: &Told<'_>,
     line: u32,
-) -> Result<Option<usize>, AllocError> {
+) -> Result<Subject, AllocError> {
     let (bytes, tokens) = source;
     match told.statement {
         Some(statement) => {
             token_of_statement(alloc, program, tokens, &told.blame, statement, line)
         }
         None => match declaration(&told.blame) {
-            Some(wanted) => Ok(declared(bytes, tokens, line, wanted)),
-            None => Ok(None),
+            Some(wanted) => Ok(Subject::at(declared(bytes, tokens, line, wanted))),
+            None => Ok(Subject::at(None)),
         },
     }
 }

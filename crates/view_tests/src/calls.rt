@@ -5,8 +5,8 @@ use explain_calls::explain_run;
 use gp_base::{MemShelf, MemSink, Name, Seq, Text};
 use std::alloc::{AllocError, Global};
 
-/// The words of a call, its program, the file moves.csv beside it, and what it has to come to: the status, the output and
-/// the line on the error stream.
+/// The words of a call, its program, which stands in the folder bom too, the file moves.csv beside it, and what it has to
+/// come to: the status, the output and the line on the error stream.
 pub type Row = (
     &'static str,
     &'static str,
@@ -85,6 +85,7 @@ fn is_told(alloc: Global, row: &Row) -> Result<bool, AllocError> {
     let words = words_of(alloc, words)?;
     let mut files = Seq::new(alloc);
     put(alloc, &mut files, b"p.gp", program.as_bytes())?;
+    put(alloc, &mut files, b"bom/p.gp", program.as_bytes())?;
     put(alloc, &mut files, b"moves.csv", moves.as_bytes())?;
     let mut shelf = MemShelf::new(alloc, files, Seq::new(alloc));
     let mut output = MemSink::new(alloc, 10000, Seq::new(alloc));

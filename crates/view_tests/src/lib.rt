@@ -2,11 +2,15 @@
 #![tactic(auto)]
 
 #[cfg(test)]
+mod blamed;
+#[cfg(test)]
 mod calls;
 #[cfg(test)]
 mod explained;
 #[cfg(test)]
 mod meant;
+#[cfg(test)]
+mod mistakes;
 #[cfg(test)]
 mod refused;
 #[cfg(test)]

@@ -29,7 +29,7 @@ const WORDS: [Row; 23] = [
         EMPTY,
         "",
         7,
-        "hint: check cannot be read: there is no such file, or it is a folder, or it may not be read\nhint: it is the program of this call\nhint: `check` is a command of gprs: after explain stands the name of a program alone\nhint: names are looked for from the folder in which the call is made\n",
+        "hint: check cannot be read: there is no such file, or it is a folder, or it may not be read\nhint: it is the program of this call\nhint: `check` is a command of gprs: after explain stands the name of a program alone\nhint: names are looked for from the folder in which the call is made\nhint: the name has no ending, as `.csv` or `.gp`\n",
         "gprs_view: read fault check\n",
     ),
     (
@@ -197,7 +197,7 @@ const WORDS: [Row; 23] = [
         LOST_FEED,
         "",
         7,
-        "hint: /data/f.csv cannot be read: there is no such file, or it is a folder, or it may not be read\nhint: line 3 of p.gp names it, for feed f\n",
+        "hint: /data/f.csv cannot be read: there is no such file, or it is a folder, or it may not be read\nhint: line 3 of p.gp names it, for feed f\nhint: `/data` is a folder; without it the name is `f.csv`\n",
         "gprs_view: read fault /data/f.csv\n",
     ),
 ];
@@ -303,6 +303,7 @@ hint: line 3 of the program says: feed moves has 3 fields in each row
 
 const FAULTS_AFTER_TOLD: &str = "moves.csv:1: 2 fields, and not 4 (kind 1 row 1)
 1,7
+hint: a row of a list of faults is position,attempt,delay,mask
 ";
 
 const REFUSED: [Row; 11] = [
@@ -396,6 +397,110 @@ const REFUSED: [Row; 11] = [
     ),
 ];
 
+// Files that are not there, by names that are likely not meant, and a word too many.
+const UNFOUND: [Row; 10] = [
+    (
+        "explain p.gp",
+        "feed f[2] from \"Moves.csv\";\ntask main() { }\n",
+        "1,2\n",
+        7,
+        "hint: Moves.csv cannot be read: there is no such file, or it is a folder, or it may not be read\nhint: line 1 of p.gp names it, for feed f\nhint: names are looked for from the folder in which the call is made\nhint: upper and lower case make two names: `moves.csv` is another file\n",
+        "gprs_view: read fault Moves.csv\n",
+    ),
+    (
+        "explain p.gp",
+        "feed f[2] from \"bom\\moves.csv\";\ntask main() { }\n",
+        "1,2\n",
+        7,
+        "hint: bom\\moves.csv cannot be read: there is no such file, or it is a folder, or it may not be read\nhint: line 1 of p.gp names it, for feed f\nhint: names are looked for from the folder in which the call is made\nhint: folders stand before a `/`, and not before a `\\`\n",
+        "gprs_view: read fault bom\\moves.csv\n",
+    ),
+    (
+        "explain p.gp",
+        "feed f[2] from \"moves\";\ntask main() { }\n",
+        "1,2\n",
+        7,
+        "hint: moves cannot be read: there is no such file, or it is a folder, or it may not be read\nhint: line 1 of p.gp names it, for feed f\nhint: names are looked for from the folder in which the call is made\nhint: the name has no ending, as `.csv` or `.gp`\n",
+        "gprs_view: read fault moves\n",
+    ),
+    (
+        "explain p.gp",
+        "feed f[2] from \"bom/moves.csv\";\ntask main() { }\n",
+        "1,2\n",
+        7,
+        "hint: bom/moves.csv cannot be read: there is no such file, or it is a folder, or it may not be read\nhint: line 1 of p.gp names it, for feed f\nhint: names are looked for from the folder in which the call is made\nhint: `bom` is a folder; without it the name is `moves.csv`\n",
+        "gprs_view: read fault bom/moves.csv\n",
+    ),
+    (
+        "explain p.gp",
+        "feed f[2] from \" moves.csv\";\ntask main() { }\n",
+        "1,2\n",
+        7,
+        "hint:  moves.csv cannot be read: there is no such file, or it is a folder, or it may not be read\nhint: line 1 of p.gp names it, for feed f\nhint: names are looked for from the folder in which the call is made\nhint: a blank is the first or the last byte of this name\n",
+        "gprs_view: read fault  moves.csv\n",
+    ),
+    (
+        "explain p.gp",
+        "feed f[2] from \"~/moves.csv\";\ntask main() { }\n",
+        "1,2\n",
+        7,
+        "hint: ~/moves.csv cannot be read: there is no such file, or it is a folder, or it may not be read\nhint: line 1 of p.gp names it, for feed f\nhint: names are looked for from the folder in which the call is made\nhint: a `~` stands for no folder here: write the whole path\nhint: `~` is a folder; without it the name is `moves.csv`\n",
+        "gprs_view: read fault ~/moves.csv\n",
+    ),
+    (
+        "explain bom/p.gp",
+        "feed f[2] from \"more.csv\";\ntask main() { }\n",
+        "1,2\n",
+        7,
+        "hint: more.csv cannot be read: there is no such file, or it is a folder, or it may not be read\nhint: line 1 of bom/p.gp names it, for feed f\nhint: names are looked for from the folder in which the call is made\nhint: bom/p.gp stands in bom: if its files do too, change into that folder and call it there\n",
+        "gprs_view: read fault more.csv\n",
+    ),
+    (
+        "explain P.gp",
+        EMPTY,
+        "",
+        7,
+        "hint: P.gp cannot be read: there is no such file, or it is a folder, or it may not be read\nhint: it is the program of this call\nhint: names are looked for from the folder in which the call is made\nhint: upper and lower case make two names: `p.gp` is another file\n",
+        "gprs_view: read fault P.gp\n",
+    ),
+    (
+        "explain p",
+        EMPTY,
+        "",
+        7,
+        "hint: p cannot be read: there is no such file, or it is a folder, or it may not be read\nhint: it is the program of this call\nhint: names are looked for from the folder in which the call is made\nhint: the name has no ending, as `.csv` or `.gp`\n",
+        "gprs_view: read fault p\n",
+    ),
+    (
+        "explain p.gp moves.csv",
+        EMPTY,
+        "",
+        2,
+        "hint: `moves.csv` is one word too many: one program is explained, and a head of it names its files, after `from`\nhint: gprs_view explain PROGRAM [--faults FILE] [--turns N] [--subthreads N] [--crew CREW] [--workers N]\n",
+        "gprs_view: usage: order | why | timeline | explain\n",
+    ),
+];
+
+// Files of another form.
+const ROWS: [Row; 2] = [
+    (
+        "explain p.gp",
+        FEED,
+        "PK\x03\x04rows\n",
+        4,
+        "moves.csv:1: 1 field, and not 2 (kind 1 row 1)\nPK??rows\nhint: the file is a workbook, or is packed: save its sheet as CSV, text with commas\nhint: line 1 of the program says: feed moves has 2 fields in each row\n",
+        "gprs_view: input moves.csv kind 1 row 1\n",
+    ),
+    (
+        "explain p.gp",
+        RECORD,
+        "0,cash,7\n",
+        4,
+        "moves.csv:1: 3 fields, and not 2 (kind 1 row 1)\n0,cash,7\n       ^\nhint: a row of a record's file is index,value\n",
+        "gprs_view: input moves.csv kind 1 row 1\n",
+    ),
+];
+
 #[test]
 fn words_are_read(rt: HostRuntime) -> Result<(), Fail> {
     assert!(rt; are_told(rt.alloc(), &WORDS)?);
@@ -405,5 +510,17 @@ fn words_are_read(rt: HostRuntime) -> Result<(), Fail> {
 #[test]
 fn refusals_are_told(rt: HostRuntime) -> Result<(), Fail> {
     assert!(rt; are_told(rt.alloc(), &REFUSED)?);
+    Ok(())
+}
+
+#[test]
+fn names_of_files_are_told(rt: HostRuntime) -> Result<(), Fail> {
+    assert!(rt; are_told(rt.alloc(), &UNFOUND)?);
+    Ok(())
+}
+
+#[test]
+fn files_of_another_form(rt: HostRuntime) -> Result<(), Fail> {
+    assert!(rt; are_told(rt.alloc(), &ROWS)?);
     Ok(())
 }
