@@ -14,4 +14,6 @@ mod mistakes;
 #[cfg(test)]
 mod refused;
 #[cfg(test)]
+mod spent;
+#[cfg(test)]
 mod views;
