@@ -1,11 +1,9 @@
-// How much a run did, how much of it side by side, and in which lines its arithmetic was not exact.
+// How much a run did, and how much of it side by side.
 
-use one_thread::{PlainRun, Step};
-use run_counts::{Counting, Slip};
-use run_hints::{Tasks, at, child_of, push_many, push_values, put};
-use run_views::{push_between, push_labelled};
+use one_thread::Step;
+use run_hints::{at, child_of, push_many, put};
 use std::alloc::{AllocError, Global};
-use task_ast::{Program, SyncOp};
+use task_ast::SyncOp;
 
 // The levels of subthreads: one more than that of the last of its thread, of each lock that it holds, and of the thread
 // that it joins or whose fork it is. `next` has for each thread, and each lock, the level that comes next.
@@ -82,87 +80,9 @@ fn counted(order: &[Step]) -> (usize, usize) {
     (threads, locks)
 }
 
-// A run of a program, with what was noted of it, and the tasks of its threads.
-#[derive(Clone, Copy)]
-struct Noted<'a> {
-    program: &'a Program,
-    order: &'a [Step],
-    counting: &'a Counting,
-    tasks: &'a Tasks,
-}
-
-// Appends where a slip was first: its position, the thread, and its control variables there.
-fn push_first(
-    alloc: Global,
-    text: &mut Vec<u8>,
-    noted: Noted<'_>,
-    slip: &Slip,
-) -> Result<(), AllocError> {
-    push_labelled(text, b", first at position ", slip.first)?;
-    let Some(step) = noted.order.get(slip.first as usize) else {
-        return Ok(());
-    };
-    push_labelled(text, b", thread ", step.thread.0)?;
-    let Some(task) = noted.tasks.task_of(noted.program, step.thread) else {
-        return Ok(());
-    };
-    if let Some(kept) = slip.kept {
-        if let Some(values) = noted.counting.values.get(kept) {
-            push_values(alloc, text, task, values)?;
-        }
-    }
-    Ok(())
-}
-
-// Appends the line of a slip, where there is one.
-fn push_slip(
-    alloc: Global,
-    text: &mut Vec<u8>,
-    noted: Noted<'_>,
-    line: usize,
-    way: &[u8],
-    slip: &Slip,
-) -> Result<(), AllocError> {
-    if slip.times == 0 {
-        return Ok(());
-    }
-    push_between(text, b"line ", line, b": arithmetic ")?;
-    text.extend_from_slice(way)?;
-    if slip.times == 1 {
-        text.extend_from_slice(b", once")?;
-    } else {
-        push_between(text, b", ", slip.times, b" times")?;
-    }
-    push_first(alloc, text, noted, slip)?;
-    text.extend_from_slice(b"\n")
-}
-
-// Appends the lines whose arithmetic was not exact.
-fn push_slips(alloc: Global, text: &mut Vec<u8>, noted: Noted<'_>) -> Result<(), AllocError> {
-    let mut exact = true;
-    let counting = noted.counting;
-    for (line, (left, divided)) in counting.left.iter().zip(&counting.divided).enumerate() {
-        push_slip(alloc, text, noted, line, b"left 64 bits", left)?;
-        push_slip(alloc, text, noted, line, b"divided by 0", divided)?;
-        exact = exact && left.times == 0 && divided.times == 0;
-    }
-    if exact {
-        text.extend_from_slice(b"arithmetic: exact in every line that ran\n")?;
-    }
-    Ok(())
-}
-
-/// Appends how many subthreads, threads and locks a run had, the most subthreads of one level, and each line whose
-/// arithmetic was not exact. The error is that memory is out.
-pub fn push_counts(
-    alloc: Global,
-    text: &mut Vec<u8>,
-    program: &Program,
-    run: &PlainRun,
-    counting: &Counting,
-    tasks: &Tasks,
-) -> Result<(), AllocError> {
-    let order = run.order.as_slice();
+/// Appends how many subthreads, threads and locks a run had, and the most subthreads of one level. The error is that memory is
+/// out.
+pub fn push_counts(alloc: Global, text: &mut Vec<u8>, order: &[Step]) -> Result<(), AllocError> {
     let (threads, locks) = counted(order);
     push_many(text, order.len() as u64, b" subthread")?;
     text.extend_from_slice(b", ")?;
@@ -171,12 +91,5 @@ pub fn push_counts(
     push_many(text, locks as u64, b" lock")?;
     text.extend_from_slice(b" taken; at most ")?;
     push_many(text, u64::from(widest(alloc, order)?), b" subthread")?;
-    text.extend_from_slice(b" side by side\n")?;
-    let noted = Noted {
-        program,
-        order,
-        counting,
-        tasks,
-    };
-    push_slips(alloc, text, noted)
+    text.extend_from_slice(b" side by side, as threads, locks, forks and joins allow\n")
 }

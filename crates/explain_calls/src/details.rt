@@ -5,8 +5,9 @@ use crate::indices::{env_of, push_index};
 use gp_base::{LockNo, ThreadNo, Why};
 use one_thread::{Standing, Step};
 use run_hints::{
-    Place, push_alike, push_bound, push_chain, push_circle, push_ended, push_forks, push_gathered,
-    push_kept, push_loops, push_many, push_names, push_own_join, put_controls, statements_of,
+    Place, is_given, push_alike, push_arrivals, push_bound, push_chain, push_circle, push_ended,
+    push_forks, push_gathered, push_kept, push_loops, push_many, push_names, push_own_join,
+    put_controls, statements_of,
 };
 use run_views::{push_between, push_labelled, push_lock};
 use std::alloc::{AllocError, Global};
@@ -163,10 +164,21 @@ fn push_joined(
     let threads = standing.nexts.len();
     push_between(text, b"thread ", *joined, b" is joined; there ")?;
     if threads == 1 {
-        return text.extend_from_slice(b"is 1 thread, 0\n");
+        return text.extend_from_slice(b"is 1 thread, 0, and nothing was forked\n");
     }
+    let forked = threads.saturating_sub(1);
     push_between(text, b"are ", threads, b" threads, 0 to ")?;
-    push_between(text, b"", threads.saturating_sub(1), b"\n")
+    push_between(text, b"", forked, b", of which ")?;
+    push_between(
+        text,
+        b"",
+        forked,
+        if forked == 1 {
+            b" was forked\n"
+        } else {
+            b" were forked\n"
+        },
+    )
 }
 
 // Appends which loop lets the number of a thread come so far that is joined in a line, and the variables of the thread that
@@ -191,6 +203,9 @@ fn push_join_bound(
         }
     }
     push_bound(alloc, text, task, line, &names, &env)?;
+    if is_given(alloc, task, line, &names)? {
+        halted.push_forked(alloc, text, thread)?;
+    }
     push_names(text, thread, env.names.as_slice())
 }
 
@@ -212,6 +227,9 @@ fn push_too_many(
     )?;
     push_forks(alloc, text, halted.order)?;
     let is_deep = push_chain(alloc, text, halted.order, thread)?;
+    if is_deep {
+        halted.push_forked(alloc, text, thread)?;
+    }
     let loops = halted.loops_of(alloc, thread, Place::Subthread(line))?;
     if !loops.is_empty() {
         push_labelled(text, b"thread ", thread.0)?;
@@ -244,15 +262,17 @@ pub fn push_stuck_details(
             push_alike(alloc, text, heads, standing)?;
             push_ended(alloc, text, halted.order, standing)?;
             push_gathered(alloc, text, heads, halted.order, standing)?;
+            push_arrivals(alloc, text, heads, halted.order, standing)?;
             push_own_join(text, standing)?;
             push_kept(text, heads, standing)?;
             push_holders(alloc, text, heads, halted.order, standing)?;
             push_circle(alloc, text, heads, standing)?;
             push_waiting(text, standing)
         }
-        Why::Index => push_index(alloc, text, halted.request, source, thread, line, standing),
+        Why::Index => push_index(alloc, text, halted, source, thread, line),
         Why::Join => {
             push_joined(text, thread, standing)?;
+            halted.push_left_out(alloc, text)?;
             push_join_bound(alloc, text, halted, thread, line)
         }
         Why::Threads => push_too_many(alloc, text, halted, thread, line),

@@ -4,7 +4,7 @@ use call_cases::Request;
 use gp_base::ThreadNo;
 use one_thread::{Standing, Step, run_reckoned};
 use run_counts::{Loop, Turned, Turns};
-use run_hints::{Place, Tasks, loops_at, push_conditions, push_names};
+use run_hints::{Branches, Place, Tasks, loops_at, push_conditions, push_forked, push_names};
 use std::alloc::{AllocError, Global};
 use task_ast::Program;
 
@@ -69,5 +69,28 @@ impl<'a> Halted<'a> {
             }
             None => Ok(()),
         }
+    }
+
+    /// Appends how a thread was forked, and the thread that did so. The error is that memory is out.
+    pub fn push_forked(
+        &self,
+        alloc: Global,
+        text: &mut Vec<u8>,
+        thread: ThreadNo,
+    ) -> Result<(), AllocError> {
+        push_forked(alloc, text, self.program(), self.order, self.tasks, thread)
+    }
+
+    /// Appends which conditions left forks out, and how often. The run is made once more for them, where there are some. The
+    /// error is that memory is out.
+    pub fn push_left_out(&self, alloc: Global, text: &mut Vec<u8>) -> Result<(), AllocError> {
+        let mut branches = Branches::new(alloc, self.program(), self.order, self.tasks)?;
+        if branches.is_empty() {
+            return Ok(());
+        }
+        let limits = self.request.asked.limits;
+        let (checked, inputs) = (&self.request.checked, &self.request.inputs);
+        run_reckoned(alloc, checked, inputs, limits, &mut branches)?;
+        branches.push(text)
     }
 }

@@ -1,176 +1,17 @@
 // Which cell is not there, where a run is stuck at an index.
 
+use crate::cells::{Absent, Missing, missing_in};
+use crate::halted::Halted;
 use crate::handles::push_handle;
-use crate::sources::push_source;
+use crate::sources::{LookedFor, MarkedPlace, spot_of, tokens_of};
 use call_cases::{Request, copied_feeds};
 use gp_base::{Feed, Name, Seq, ThreadNo};
 use one_thread::Standing;
-use run_hints::{push_bound, push_many, push_names, put_controls, value_of};
+use run_hints::{is_given, push_bound, push_many, push_names, put_controls};
 use run_views::{push_between, push_labelled};
 use std::alloc::{AllocError, Global};
-use task_ast::{Atom, Env, Expr, Head, Program, Stmt, What, eval_d};
-
-// What the statements of a thread are read under.
-#[derive(Drop)]
-struct Here<'a> {
-    heads: &'a [Head],
-    env: &'a Env,
-}
-
-// A cell that is not there: one of a lock array or a record of this size, or one of a feed.
-#[derive(Clone, Copy)]
-enum Missing<'a> {
-    Cell {
-        array: &'a Name,
-        index: &'a Atom,
-        at: i64,
-        size: i64,
-    },
-    Fed {
-        feed: &'a Name,
-        row: &'a Expr,
-        field: &'a Expr,
-    },
-}
-
-// How many cells a lock array or a record of this name has.
-fn size_of(heads: &[Head], array: &Name) -> Option<i64> {
-    for head in heads {
-        match head {
-            Head::LockHead { name, size, .. } if name.as_slice() == array.as_slice() => {
-                return Some(*size);
-            }
-            Head::RecHead { name, size, .. } if name.as_slice() == array.as_slice() => {
-                return Some(*size);
-            }
-            _ => {}
-        }
-    }
-    None
-}
-
-// A cell of an array, where it is not there.
-fn outside<'a>(here: &Here, array: &'a Name, index: &'a Atom) -> Option<Missing<'a>> {
-    let at = match index {
-        Atom::Num(value) => *value,
-        Atom::Var(name) => value_of(here.env.names.as_slice(), name),
-    };
-    let size = size_of(here.heads, array)?;
-    if 0 <= at && at < size {
-        return None;
-    }
-    Some(Missing::Cell {
-        array,
-        index,
-        at,
-        size,
-    })
-}
-
-// The first cell of a feed that an expression names and that is not there.
-fn find_in<'a>(here: &Here, e: &'a Expr) -> Option<Missing<'a>> {
-    match e {
-        Expr::Cell(feed, row, field) => {
-            if let Some(missing) = find_in(here, row) {
-                return Some(missing);
-            }
-            if let Some(missing) = find_in(here, field) {
-                return Some(missing);
-            }
-            if eval_d(e, here.env).is_some() {
-                return None;
-            }
-            Some(Missing::Fed { feed, row, field })
-        }
-        Expr::Neg(a) => find_in(here, a),
-        Expr::Not(a) => find_in(here, a),
-        Expr::Chain(first, links) => {
-            if let Some(missing) = find_in(here, first) {
-                return Some(missing);
-            }
-            for link in links.as_slice() {
-                if let Some(missing) = find_in(here, &link.1) {
-                    return Some(missing);
-                }
-            }
-            None
-        }
-        _ => None,
-    }
-}
-
-fn find_among<'a>(here: &Here, es: &'a [Expr]) -> Option<Missing<'a>> {
-    for e in es {
-        if let Some(missing) = find_in(here, e) {
-            return Some(missing);
-        }
-    }
-    None
-}
-
-// The first cell that a statement names before it does anything else and that is not there.
-#[cycle(finding)]
-fn find_at<'a>(here: &Here, what: &'a What) -> Option<Missing<'a>> {
-    match what {
-        What::SetCtl(_, e) => find_in(here, e),
-        What::SetReg(_, e) => find_in(here, e),
-        What::While(e, _) => find_in(here, e),
-        What::If(e, _, _) => find_in(here, e),
-        What::Join(e, _) => find_in(here, e),
-        What::Lock(array, index) => outside(here, array, index),
-        What::Unlock(array, index) => outside(here, array, index),
-        What::Read(record, index, _) => outside(here, record, index),
-        What::Write(record, index, e) => match find_in(here, e) {
-            Some(missing) => Some(missing),
-            None => outside(here, record, index),
-        },
-        What::Fork(_, es, _) => find_among(here, es.as_slice()),
-        What::Print(es) => find_among(here, es.as_slice()),
-        What::When(e, first, second) => {
-            if let Some(missing) = find_in(here, e) {
-                return Some(missing);
-            }
-            match find_all(here, first.as_slice()) {
-                Some(missing) => Some(missing),
-                None => find_all(here, second.as_slice()),
-            }
-        }
-        What::Barrier(_) | What::Settle(_, _) => None,
-    }
-}
-
-#[cycle(finding)]
-fn find_all<'a>(here: &Here, block: &'a [Stmt]) -> Option<Missing<'a>> {
-    for stmt in block {
-        if let Some(missing) = find_at(here, &stmt.what) {
-            return Some(missing);
-        }
-    }
-    None
-}
-
-// The same of the statements in a line.
-fn find_in_line<'a>(here: &Here, block: &'a [Stmt], line: u32) -> Option<Missing<'a>> {
-    for stmt in block {
-        if stmt.line == line {
-            if let Some(missing) = find_at(here, &stmt.what) {
-                return Some(missing);
-            }
-        }
-        let found = match &stmt.what {
-            What::While(_, body) => find_in_line(here, body.as_slice(), line),
-            What::If(_, first, second) => match find_in_line(here, first.as_slice(), line) {
-                Some(missing) => Some(missing),
-                None => find_in_line(here, second.as_slice(), line),
-            },
-            _ => None,
-        };
-        if found.is_some() {
-            return found;
-        }
-    }
-    None
-}
+use task_ast::{Atom, Env, Expr, Head, Stmt, eval_d};
+use text_places::push_marked;
 
 // Appends a cell of an array that is not there, and how many the array has.
 fn push_outside(
@@ -214,17 +55,17 @@ fn push_size(text: &mut Vec<u8>, feed: &Feed) -> Result<(), AllocError> {
 // Appends a cell of a feed that is not there.
 fn push_no_cell(
     text: &mut Vec<u8>,
-    here: &Here,
+    env: &Env,
     feed: &Name,
     row: &Expr,
     field: &Expr,
 ) -> Result<(), AllocError> {
-    let (row, field) = (eval_d(row, here.env), eval_d(field, here.env));
+    let (row, field) = (eval_d(row, env), eval_d(field, env));
     text.extend_from_slice(feed.as_slice())?;
     push_labelled(text, b"[", row.unwrap_or(0))?;
     push_between(text, b", ", field.unwrap_or(0), b"]; ")?;
     text.extend_from_slice(feed.as_slice())?;
-    for pair in here.env.feeds.as_slice() {
+    for pair in env.feeds.as_slice() {
         if pair.0.as_slice() == feed.as_slice() {
             push_size(text, &pair.1)?;
         }
@@ -249,37 +90,69 @@ fn controls_of<'a>(alloc: Global, missing: Missing<'a>) -> Result<Vec<&'a Name>,
     Ok(names)
 }
 
+// Appends a line of a program with a mark under a place in it.
+fn push_spot(
+    text: &mut Vec<u8>,
+    source: &[u8],
+    spot: Option<MarkedPlace>,
+) -> Result<(), AllocError> {
+    match spot {
+        Some(spot) => push_marked(text, source, spot.at),
+        None => Ok(()),
+    }
+}
+
+// Where a cell of an array stands that a statement in a line names, and its line before other words, if that is another one.
+fn push_line_of(
+    alloc: Global,
+    text: &mut Vec<u8>,
+    source: &[u8],
+    line: u32,
+    array: &Name,
+    place: usize,
+) -> Result<Option<MarkedPlace>, AllocError> {
+    let tokens = tokens_of(alloc, source)?;
+    let spot = spot_of(source, &tokens, line, LookedFor::Cell(array), Some(place));
+    if let Some(spot) = spot {
+        if spot.line != line {
+            push_between(text, b"in line ", spot.line, b": ")?;
+        }
+    }
+    Ok(spot)
+}
+
 // Appends a cell that is not there, the line of the program that names it, and where its index comes from, if that is a
 // thread's number.
 fn push_missing(
     alloc: Global,
     text: &mut Vec<u8>,
-    here: &Here,
+    env: &Env,
     source: &[u8],
-    body: &[Stmt],
     line: u32,
-    missing: Missing<'_>,
+    found: &Absent<'_>,
 ) -> Result<(), AllocError> {
-    match missing {
+    match found.missing {
         Missing::Cell {
             array,
             index,
             at,
             size,
         } => {
+            let spot = push_line_of(alloc, text, source, line, array, found.place)?;
             push_outside(text, array, index, at, size)?;
-            push_source(alloc, text, source, line, array)?;
-            push_handle(text, body, index)
+            push_spot(text, source, spot)?;
+            push_handle(text, found.task.body.as_slice(), index)
         }
         Missing::Fed { feed, row, field } => {
-            push_no_cell(text, here, feed, row, field)?;
-            push_source(alloc, text, source, line, feed)
+            let spot = push_line_of(alloc, text, source, line, feed, found.place)?;
+            push_no_cell(text, env, feed, row, field)?;
+            push_spot(text, source, spot)
         }
     }
 }
 
-// The feeds of a run by their names.
-fn named_feeds(
+/// The feeds of a run by their names. The error is that memory is out.
+pub fn named_feeds(
     alloc: Global,
     request: &Request,
     heads: &[Head],
@@ -328,28 +201,23 @@ pub fn env_of(
     })
 }
 
-/// Appends which cell is not there that a thread names in a line of this program, that line, and the control variables of
-/// the thread. The error is that memory is out.
+/// Appends which cell is not there that a thread names in a line of a program with this text, that line, how the thread was
+/// forked, if its arguments may be the cause, and its control variables. The error is that memory is out.
 pub fn push_index(
     alloc: Global,
     text: &mut Vec<u8>,
-    request: &Request,
+    halted: Halted<'_>,
     source: &[u8],
     thread: ThreadNo,
     line: u32,
-    standing: &Standing,
 ) -> Result<(), AllocError> {
-    let program: &Program = request.checked.program();
-    let heads = program.heads.as_slice();
-    let env = env_of(alloc, request, standing, thread)?;
-    let here = Here { heads, env: &env };
-    for task in program.tasks.as_slice() {
-        let body = task.body.as_slice();
-        if let Some(missing) = find_in_line(&here, body, line) {
-            push_missing(alloc, text, &here, source, body, line, missing)?;
-            let names = controls_of(alloc, missing)?;
-            push_bound(alloc, text, task, line, &names, &env)?;
-            break;
+    let env = env_of(alloc, halted.request, halted.standing, thread)?;
+    if let Some(found) = missing_in(alloc, halted.program(), &env, line)? {
+        push_missing(alloc, text, &env, source, line, &found)?;
+        let names = controls_of(alloc, found.missing)?;
+        push_bound(alloc, text, found.task, line, &names, &env)?;
+        if is_given(alloc, found.task, line, &names)? {
+            halted.push_forked(alloc, text, thread)?;
         }
     }
     push_names(text, thread, env.names.as_slice())

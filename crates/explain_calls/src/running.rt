@@ -16,12 +16,14 @@ use crate::counts::push_counts;
 use crate::details::push_stuck_details;
 use crate::first_cells::push_first_cells;
 use crate::halted::Halted;
+use crate::slips::{Noted, push_slips};
 use crate::spent::push_spent_details;
+use crate::strikes::push_strikes;
 use call_cases::Request;
 use gp_base::{End, Seq, Text, Why};
 use one_thread::{PlainRun, Standing, run_reckoned, stand_before};
 use run_counts::Counting;
-use run_hints::{Tasks, push_crossing, push_results, push_unset};
+use run_hints::{Tasks, push_crossing, push_results, push_unforked, push_unordered, push_unset};
 use run_views::{push_between, push_labelled, push_standing, why_word};
 use std::alloc::{AllocError, Global};
 use task_ast::{Head, Program};
@@ -125,9 +127,11 @@ fn push_hints(
     run: &PlainRun,
     tasks: &Tasks,
 ) -> Result<(), AllocError> {
+    push_unforked(alloc, text, program)?;
     push_unset(alloc, text, program, tasks)?;
     match run.end {
         End::Finished => {
+            push_unordered(alloc, text, program, run.order.as_slice(), tasks)?;
             push_results(alloc, text, program, run.order.as_slice(), tasks)?;
             push_crossing(alloc, text, program, run.order.as_slice())
         }
@@ -156,7 +160,16 @@ pub fn tell_of(alloc: Global, request: &Request, source: &[u8]) -> Result<Told, 
     let mut rest = Vec::new(alloc);
     let mut text = front_of(alloc, request, source, &run, &tasks, &mut rest)?;
     push_spent_details(alloc, &mut rest, request, &run, &counting, &tasks)?;
-    push_counts(alloc, &mut rest, program, &run, &counting, &tasks)?;
+    push_counts(alloc, &mut rest, run.order.as_slice())?;
+    let noted = Noted {
+        request,
+        source,
+        order: run.order.as_slice(),
+        counting: &counting,
+        tasks: &tasks,
+    };
+    push_slips(alloc, &mut rest, noted)?;
+    push_strikes(alloc, &mut rest, request, &run)?;
     push_hints(alloc, &mut rest, program, &run, &tasks)?;
     push_first_cells(&mut rest, request)?;
     text.extend_from_slice(&rest)?;

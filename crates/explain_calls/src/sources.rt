@@ -1,49 +1,112 @@
-// Lines of a program's text.
+// Places in the lines of a program's text.
 
 use gp_base::Name;
 use std::alloc::{AllocError, Global};
 use task_parser::{Kind, LexFault, Token, lex};
-use text_places::{bytes_of, first_place, push_marked};
+use text_places::{bytes_of, first_place};
 
 const OPEN_BRACKET: Kind = Kind::Mark(0);
 
-// Where the only cell of an array in a line stands, or none where it has none of the array, or more than one.
-fn only_cell(source: &[u8], tokens: &[Token], line: u32, array: &Name) -> Option<u32> {
-    let mut found = None;
-    for (token, next) in tokens.iter().zip(tokens.iter().skip(1)) {
-        let is_cell = token.line == line
-            && next.kind == OPEN_BRACKET
-            && *bytes_of(source, token) == *array.as_slice();
-        if is_cell && found.is_some() {
-            return None;
-        }
-        if is_cell {
-            found = Some(token.from);
-        }
-    }
-    found
+/// What is looked for in a line: a cell of this array, or an operator of arithmetic.
+#[derive(Clone, Copy)]
+pub enum LookedFor<'a> {
+    Cell(&'a Name),
+    Operator,
 }
 
-/// Appends a line of a program with a mark: under the cell of an array, if only one of that array stands there, or else
-/// under the line's first token. The error is that memory is out.
-pub fn push_source(
-    alloc: Global,
-    text: &mut Vec<u8>,
+/// A place in a program's text, and its line.
+#[derive(Clone, Copy)]
+pub struct MarkedPlace {
+    pub at: usize,
+    pub line: u32,
+}
+
+/// The tokens of a program's text, or none where it has none. The error is that memory is out.
+pub fn tokens_of(alloc: Global, source: &[u8]) -> Result<Vec<Token>, AllocError> {
+    match lex(alloc, source) {
+        Ok(tokens) => Ok(tokens.into_vec()),
+        Err(LexFault::OutOfMemory) => Err(AllocError),
+        Err(_) => Ok(Vec::new(alloc)),
+    }
+}
+
+// Whether a statement or a task may begin behind a token: that is `;`, `{` or `}`.
+fn ends_one(token: &Token) -> bool {
+    matches!(token.kind, Kind::Mark(4) | Kind::Mark(5) | Kind::Mark(7))
+}
+
+// Whether the first token of a line begins a statement or a task, so that none goes on into the line.
+fn begins_anew(tokens: &[Token], line: u32) -> bool {
+    let before = tokens.iter().take_while(|token| token.line < line).count();
+    match tokens.get(before.saturating_sub(1)) {
+        Some(token) => before == 0 || ends_one(token),
+        None => true,
+    }
+}
+
+// Whether a token is `+`, `-`, `*`, `/` or `%`.
+fn is_operator(token: &Token) -> bool {
+    matches!(token.kind, Kind::Mark(number) if 15 <= number && number <= 19)
+}
+
+impl LookedFor<'_> {
+    fn is_at(self, source: &[u8], token: &Token, next: &Token) -> bool {
+        match self {
+            LookedFor::Cell(array) => {
+                next.kind == OPEN_BRACKET && *bytes_of(source, token) == *array.as_slice()
+            }
+            LookedFor::Operator => is_operator(token),
+        }
+    }
+}
+
+// The one of this number, counted from 1, from the beginning of a line on.
+fn nth_spot(
     source: &[u8],
+    tokens: &[Token],
     line: u32,
-    array: &Name,
-) -> Result<(), AllocError> {
-    let tokens = match lex(alloc, source) {
-        Ok(tokens) => tokens,
-        Err(LexFault::OutOfMemory) => return Err(AllocError),
-        Err(_) => return Ok(()),
+    sought: LookedFor<'_>,
+    number: usize,
+) -> Option<MarkedPlace> {
+    if !begins_anew(tokens, line) {
+        return None;
+    }
+    let mut count: usize = 0;
+    for (token, next) in tokens.iter().zip(tokens.iter().skip(1)) {
+        if token.line >= line && sought.is_at(source, token, next) {
+            count = count.saturating_add(1);
+            if count == number {
+                return Some(MarkedPlace {
+                    at: token.from as usize,
+                    line: token.line,
+                });
+            }
+        }
+    }
+    None
+}
+
+/// Where the one of this number stands, counted from 1 from the beginning of a line on; and where that is not known, or a
+/// statement goes on into the line, where the line begins.
+pub fn spot_of(
+    source: &[u8],
+    tokens: &[Token],
+    line: u32,
+    sought: LookedFor<'_>,
+    number: Option<usize>,
+) -> Option<MarkedPlace> {
+    let found = match number {
+        Some(number) => nth_spot(source, tokens, line, sought, number),
+        None => None,
     };
-    let place = match only_cell(source, tokens.as_slice(), line, array) {
-        Some(at) => Some(at),
-        None => first_place(tokens.as_slice(), line),
-    };
-    match place {
-        Some(at) => push_marked(text, source, at as usize),
-        None => Ok(()),
+    match found {
+        Some(spot) => Some(spot),
+        None => match first_place(tokens, line) {
+            Some(at) => Some(MarkedPlace {
+                at: at as usize,
+                line,
+            }),
+            None => None,
+        },
     }
 }

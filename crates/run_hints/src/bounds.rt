@@ -116,8 +116,26 @@ fn follow<'a>(names: &mut Vec<&'a Name>, statements: &[&'a Stmt]) -> Result<(), 
     Ok(())
 }
 
-// The last statement before a line, or in it, that sets one of these variables to what a feed holds.
-fn fed_by<'a>(names: &[&Name], statements: &[&'a Stmt], line: u32) -> Option<(&'a Name, u32)> {
+/// These variables, and those from which they are computed by these statements, but for those that only choose a row of a
+/// feed. The error is that memory is out.
+pub fn followed<'a>(
+    alloc: Global,
+    names: &[&'a Name],
+    statements: &[&'a Stmt],
+) -> Result<Vec<&'a Name>, AllocError> {
+    let mut followed = Vec::new(alloc);
+    for name in names {
+        followed.push(*name)?;
+    }
+    for _ in 0..MOST_FOLLOWED {
+        follow(&mut followed, statements)?;
+    }
+    Ok(followed)
+}
+
+/// The last statement before a line, or in it, that sets one of these variables to what a feed holds: the variable, and its
+/// line.
+pub fn fed_by<'a>(names: &[&Name], statements: &[&'a Stmt], line: u32) -> Option<(&'a Name, u32)> {
     let mut found = None;
     for stmt in statements {
         if let What::SetCtl(name, e) = &stmt.what {
@@ -240,13 +258,7 @@ pub fn push_bound<'a>(
     if let Some((name, set)) = fed_by(names, &statements, line) {
         return push_fed(text, name, set);
     }
-    let mut followed = Vec::new(alloc);
-    for name in names {
-        followed.push(*name)?;
-    }
-    for _ in 0..MOST_FOLLOWED {
-        follow(&mut followed, &statements)?;
-    }
+    let followed = followed(alloc, names, &statements)?;
     if let Some(came) = own_bound(&followed, &statements, line, env) {
         return push_own(text, came);
     }

@@ -90,7 +90,8 @@ pub fn push_ended(
     text.extend_from_slice(b"\n")
 }
 
-fn is_barrier(sync: &SyncOp, number: u32) -> bool {
+/// Whether a synchronisation is at the barrier of this number.
+pub fn is_barrier(sync: &SyncOp, number: u32) -> bool {
     match sync {
         SyncOp::Barrier(other) => *other == number,
         _ => false,

@@ -2,28 +2,38 @@
 //! led to its end.
 #![tactic(auto)]
 
+mod arrivals;
 mod bounds;
+mod branches;
 mod circles;
 mod ended;
+mod forked;
 mod forks;
 mod loops;
 mod orders;
 mod results;
 mod statements;
 mod threads;
+mod unforked;
+mod unordered;
 mod unset;
 mod waiting;
 mod words;
 
+pub use arrivals::push_arrivals;
 pub use bounds::push_bound;
+pub use branches::Branches;
 pub use circles::push_circle;
 pub use ended::{push_ended, push_gathered};
+pub use forked::{is_given, push_forked};
 pub use forks::{busiest, push_chain, push_forks};
 pub use loops::{Place, loops_at, push_conditions, push_loops, push_outer};
 pub use orders::push_crossing;
 pub use results::push_results;
 pub use statements::{put_controls, statements_of, value_of};
-pub use threads::{Tasks, child_of, push_names, push_values};
+pub use threads::{Tasks, child_of, controls_of, push_names, push_values};
+pub use unforked::push_unforked;
+pub use unordered::push_unordered;
 pub use unset::push_unset;
 pub use waiting::{push_alike, push_kept, push_own_join};
-pub use words::{at, push_many, put};
+pub use words::{at, push_many, push_times, put};

@@ -97,14 +97,20 @@ pub fn push_names(
     text.extend_from_slice(b"\n")
 }
 
-// The control variables of a task, in declared order.
-fn controls_of<'a>(alloc: Global, task: &'a TaskText) -> Result<Vec<&'a Name>, AllocError> {
+/// The control parameters of a task, in declared order. The error is that memory is out.
+pub fn parameters_of<'a>(alloc: Global, task: &'a TaskText) -> Result<Vec<&'a Name>, AllocError> {
     let mut names = Vec::new(alloc);
     for param in task.params.as_slice() {
         if let Param::Ctl(name) = param {
             names.push(name)?;
         }
     }
+    Ok(names)
+}
+
+/// The control variables of a task, its parameters first, in declared order. The error is that memory is out.
+pub fn controls_of<'a>(alloc: Global, task: &'a TaskText) -> Result<Vec<&'a Name>, AllocError> {
+    let mut names = parameters_of(alloc, task)?;
     for vars in task.vars.as_slice() {
         for param in vars.names.as_slice() {
             if let Param::Ctl(name) = param {

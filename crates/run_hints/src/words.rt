@@ -1,6 +1,6 @@
 // Numbers with what they count, and numbers by their places.
 
-use run_views::push_number;
+use run_views::{push_between, push_number};
 use std::alloc::AllocError;
 
 /// Appends how many of a thing there are. The error is that memory is out.
@@ -11,6 +11,15 @@ pub fn push_many(text: &mut Vec<u8>, count: u64, thing: &[u8]) -> Result<(), All
         text.extend_from_slice(b"s")?;
     }
     Ok(())
+}
+
+/// Appends how often something was. The error is that memory is out.
+pub fn push_times(text: &mut Vec<u8>, count: u64) -> Result<(), AllocError> {
+    if count == 1 {
+        text.extend_from_slice(b"once")
+    } else {
+        push_between(text, b"", count, b" times")
+    }
 }
 
 /// The number at a place, or 0 past the end.

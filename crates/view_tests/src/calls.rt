@@ -21,7 +21,7 @@ pub const EMPTY: &str = "task main() { }";
 
 /// What is told of it.
 pub const EMPTY_TOLD: &str = "ok
-1 subthread, 1 thread, 0 locks taken; at most 1 subthread side by side
+1 subthread, 1 thread, 0 locks taken; at most 1 subthread side by side, as threads, locks, forks and joins allow
 arithmetic: exact in every line that ran
 ";
 

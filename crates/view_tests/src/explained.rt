@@ -16,7 +16,7 @@ const ALONE_TOLD: &str = "stuck deadlock thread 0 line 5
 thread 0 line 5 waits for lock l[0], which it holds itself
 thread 0 holds l[0], taken in line 4
 thread 0: i = 0, j = 0
-2 subthreads, 1 thread, 1 lock taken; at most 1 subthread side by side
+2 subthreads, 1 thread, 1 lock taken; at most 1 subthread side by side, as threads, locks, forks and joins allow
 arithmetic: exact in every line that ran
 hint: line 4 reads i, which nothing sets: it is 0
 hint: line 5 reads j, which nothing sets: it is 0
@@ -41,7 +41,7 @@ const AGAIN_TOLD: &str = "stuck deadlock thread 0 line 11
 thread 0 line 11 waits for thread 1 to end
 thread 1 line 6 waits for thread 0 to end
 thread 1 holds l[1], taken in line 5
-6 subthreads, 2 threads, 2 locks taken; at most 1 subthread side by side
+6 subthreads, 2 threads, 2 locks taken; at most 1 subthread side by side, as threads, locks, forks and joins allow
 arithmetic: exact in every line that ran
 ";
 
@@ -53,7 +53,7 @@ thread 1 holds x[1], taken in line 5
 thread 1 holds y[0], taken in line 6
 thread 2 holds y[1], taken in line 14
 hint: thread 1 takes x[1] before y[1], thread 2 takes y[1] before x[1]: threads that all take their locks in one order do not wait in a circle
-8 subthreads, 3 threads, 3 locks taken; at most 2 subthreads side by side
+8 subthreads, 3 threads, 3 locks taken; at most 2 subthreads side by side, as threads, locks, forks and joins allow
 arithmetic: exact in every line that ran
 ";
 
@@ -85,7 +85,7 @@ hint: thread 1 takes l[0] before l[1], thread 2 takes l[1] before l[2], thread 3
 thread 1: i = 0, j = 1
 thread 2: i = 1, j = 2
 thread 3: i = 2, j = 0
-13 subthreads, 4 threads, 3 locks taken; at most 3 subthreads side by side
+13 subthreads, 4 threads, 3 locks taken; at most 3 subthreads side by side, as threads, locks, forks and joins allow
 arithmetic: exact in every line that ran
 ";
 
@@ -134,7 +134,7 @@ thread 6: i = 5, j = 6
 thread 7: i = 6, j = 7
 thread 8: i = 7, j = 8
 thread 9: i = 8, j = 0
-37 subthreads, 10 threads, 9 locks taken; at most 4 subthreads side by side
+37 subthreads, 10 threads, 9 locks taken; at most 4 subthreads side by side, as threads, locks, forks and joins allow
 arithmetic: exact in every line that ran
 ";
 
@@ -151,7 +151,7 @@ thread 0 line 5 waits for barrier step
 thread 1 line 2 waits for barrier step
 barrier step: 2 of 3 threads are there: 0 1
 hint: barrier step is of 3 threads, and the run has 2
-3 subthreads, 2 threads, 0 locks taken; at most 1 subthread side by side
+3 subthreads, 2 threads, 0 locks taken; at most 1 subthread side by side, as threads, locks, forks and joins allow
 arithmetic: exact in every line that ran
 ";
 
@@ -177,9 +177,10 @@ thread 1 line 4 waits for barrier step
 thread 3 line 4 waits for barrier step
 barrier step: 2 of 3 threads are there: 1 3
 hint: thread 2 has ended, after line 4
+hint: arrivals at barrier step: 2 by thread 1, 1 by thread 2, 2 by thread 3
 thread 1: n = 1
 thread 3: n = 1
-10 subthreads, 4 threads, 0 locks taken; at most 3 subthreads side by side
+10 subthreads, 4 threads, 0 locks taken; at most 3 subthreads side by side, as threads, locks, forks and joins allow
 arithmetic: exact in every line that ran
 ";
 
@@ -201,7 +202,7 @@ const ENDED_TOLD: &str = "stuck deadlock thread 9 line 3
 thread 9 line 3 waits for barrier step
 barrier step: 1 of 2 threads is there: 9
 hint: thread 0 has ended, after line 10; thread 1; thread 2; thread 3; thread 4; thread 5; thread 6; thread 7; and 1 more
-19 subthreads, 10 threads, 0 locks taken; at most 2 subthreads side by side
+19 subthreads, 10 threads, 0 locks taken; at most 2 subthreads side by side, as threads, locks, forks and joins allow
 arithmetic: exact in every line that ran
 ";
 
@@ -210,7 +211,7 @@ const ITSELF: &str = "task main() { join 0; }";
 const ITSELF_TOLD: &str = "stuck deadlock thread 0 line 1
 thread 0 line 1 waits for thread 0 to end
 hint: thread 0 joins itself: 0 is main, and the forks make threads 1, 2 and so on
-1 subthread, 1 thread, 0 locks taken; at most 1 subthread side by side
+1 subthread, 1 thread, 0 locks taken; at most 1 subthread side by side, as threads, locks, forks and joins allow
 arithmetic: exact in every line that ran
 ";
 
@@ -226,7 +227,7 @@ const LONE_TOLD: &str = "stuck deadlock thread 0 line 5
 thread 0 line 5 waits for barrier b
 barrier b: 1 of 2 threads is there: 0
 hint: barrier b is of 2 threads, and the run has 1
-2 subthreads, 1 thread, 0 locks taken; at most 1 subthread side by side
+2 subthreads, 1 thread, 0 locks taken; at most 1 subthread side by side, as threads, locks, forks and joins allow
 arithmetic: exact in every line that ran
 ";
 
@@ -238,16 +239,16 @@ task main() {
 ";
 
 const NOBODY_TOLD: &str = "stuck join thread 0 line 4
-thread 7 is joined; there are 2 threads, 0 to 1
-3 subthreads, 2 threads, 0 locks taken; at most 1 subthread side by side
+thread 7 is joined; there are 2 threads, 0 to 1, of which 1 was forked
+3 subthreads, 2 threads, 0 locks taken; at most 1 subthread side by side, as threads, locks, forks and joins allow
 arithmetic: exact in every line that ran
 ";
 
 const NEGATIVE: &str = "task main() { join 0 - 1; }";
 
 const NEGATIVE_TOLD: &str = "stuck join thread 0 line 1
-thread -1 is joined; there is 1 thread, 0
-1 subthread, 1 thread, 0 locks taken; at most 1 subthread side by side
+thread -1 is joined; there is 1 thread, 0, and nothing was forked
+1 subthread, 1 thread, 0 locks taken; at most 1 subthread side by side, as threads, locks, forks and joins allow
 arithmetic: exact in every line that ran
 ";
 
@@ -280,7 +281,7 @@ bank[i] with i = 2; bank has 2 cells, 0 to 1
   lock bank[i];
        ^
 thread 0: i = 2
-1 subthread, 1 thread, 0 locks taken; at most 1 subthread side by side
+1 subthread, 1 thread, 0 locks taken; at most 1 subthread side by side, as threads, locks, forks and joins allow
 arithmetic: exact in every line that ran
 ";
 
@@ -295,7 +296,7 @@ const LITERAL_TOLD: &str = "stuck index thread 0 line 3
 bank[5]; bank has 2 cells, 0 to 1
   lock bank[5];
        ^
-1 subthread, 1 thread, 0 locks taken; at most 1 subthread side by side
+1 subthread, 1 thread, 0 locks taken; at most 1 subthread side by side, as threads, locks, forks and joins allow
 arithmetic: exact in every line that ran
 ";
 
@@ -313,8 +314,9 @@ const BELOW_TOLD: &str = "stuck index thread 1 line 3
 bank[i] with i = -1; bank has 2 cells, 0 to 1
   lock bank[i];
        ^
+hint: thread 1 was forked in line 7 with i = -1, k = 3, by thread 0
 thread 1: i = -1, k = 3
-3 subthreads, 2 threads, 0 locks taken; at most 1 subthread side by side
+3 subthreads, 2 threads, 0 locks taken; at most 1 subthread side by side, as threads, locks, forks and joins allow
 arithmetic: exact in every line that ran
 ";
 
@@ -334,7 +336,7 @@ moves[2, 1]; moves has 2 rows, 0 to 1, of 2 fields, 0 to 1
           ^
 hint: the loop in line 4 goes on while i < 5, and i came to 2
 thread 0: i = 2
-1 subthread, 1 thread, 0 locks taken; at most 1 subthread side by side
+1 subthread, 1 thread, 0 locks taken; at most 1 subthread side by side, as threads, locks, forks and joins allow
 arithmetic: exact in every line that ran
 ";
 
@@ -350,7 +352,7 @@ moves[0, 2]; moves has 1 row, 0 to 0, of 2 fields, 0 to 1
   x = 3 + 2 * moves[0, 2];
               ^
 thread 0: x = 0
-1 subthread, 1 thread, 0 locks taken; at most 1 subthread side by side
+1 subthread, 1 thread, 0 locks taken; at most 1 subthread side by side, as threads, locks, forks and joins allow
 arithmetic: exact in every line that ran
 ";
 
@@ -365,7 +367,7 @@ const NO_ROW_TOLD: &str = "stuck index thread 0 line 4
 moves[0, 0]; moves has 0 rows, of 2 fields, 0 to 1
   fork t(moves[0, 0]);
          ^
-1 subthread, 1 thread, 0 locks taken; at most 1 subthread side by side
+1 subthread, 1 thread, 0 locks taken; at most 1 subthread side by side, as threads, locks, forks and joins allow
 arithmetic: exact in every line that ran
 ";
 
@@ -381,10 +383,10 @@ task main() {
 ";
 
 const ARM_TOLD: &str = "stuck index thread 0 line 4
-moves[4, 1]; moves has 1 row, 0 to 0, of 2 fields, 0 to 1
-  when $a {
-  ^
-1 subthread, 1 thread, 0 locks taken; at most 1 subthread side by side
+in line 7: moves[4, 1]; moves has 1 row, 0 to 0, of 2 fields, 0 to 1
+    $a = moves[0, 0] + moves[4, 1];
+                       ^
+1 subthread, 1 thread, 0 locks taken; at most 1 subthread side by side, as threads, locks, forks and joins allow
 arithmetic: exact in every line that ran
 ";
 
@@ -408,11 +410,11 @@ bank[h] with h = 2; bank has 2 cells, 0 to 1
        ^
 hint: h is the number of a thread, by the fork in line 5; what the thread gives back is an index after `join h into $x; settle $x into c;`
 thread 0: h = 2
-6 subthreads, 3 threads, 0 locks taken; at most 2 subthreads side by side
+6 subthreads, 3 threads, 0 locks taken; at most 2 subthreads side by side, as threads, locks, forks and joins allow
 arithmetic: exact in every line that ran
 ";
 
-// Two cells of one array stand in the line, so that it is marked at its beginning.
+// Two cells of one array stand in the line, and the second is not there.
 const TWO_CELLS: &str = "feed moves[2] from \"moves.csv\";
 task main() {
   print moves[0, 1], moves[7, 1];
@@ -422,8 +424,8 @@ task main() {
 const TWO_CELLS_TOLD: &str = "stuck index thread 0 line 3
 moves[7, 1]; moves has 1 row, 0 to 0, of 2 fields, 0 to 1
   print moves[0, 1], moves[7, 1];
-  ^
-1 subthread, 1 thread, 0 locks taken; at most 1 subthread side by side
+                     ^
+1 subthread, 1 thread, 0 locks taken; at most 1 subthread side by side, as threads, locks, forks and joins allow
 arithmetic: exact in every line that ran
 ";
 
@@ -453,12 +455,22 @@ const CONTROL: &str = "task main() {
 ";
 
 const CONTROL_TOLD: &str = "ok
-1 subthread, 1 thread, 0 locks taken; at most 1 subthread side by side
+1 subthread, 1 thread, 0 locks taken; at most 1 subthread side by side, as threads, locks, forks and joins allow
 line 4: arithmetic left 64 bits, once, first at position 0, thread 0: m = -9223372036854775808, x = 0
+  x = m / (0 - 1);
+        ^
 line 5: arithmetic left 64 bits, once, first at position 0, thread 0: m = -9223372036854775808, x = -9223372036854775808
+  x = -m;
+      ^
 line 6: arithmetic divided by 0, once, first at position 0, thread 0: m = -9223372036854775808, x = -9223372036854775808
+  x = 7 % 0;
+        ^
 line 7: arithmetic left 64 bits, once, first at position 0, thread 0: m = -9223372036854775808, x = 0
+  x = m - 1;
+        ^
 line 8: arithmetic left 64 bits, once, first at position 0, thread 0: m = -9223372036854775808, x = 9223372036854775807
+  x = m * 2;
+        ^
 ";
 
 const DATA: &str = "lock l[1];
@@ -482,12 +494,19 @@ task main() {
 ";
 
 // In the three rounds r[0] is 0, and the remainder 3037000500 of the sum; the first is divided by 0, which leaves 0, the
-// second by 1, and the third, 3037000500 * 3037000500 + 3037000500, leaves 64 bits at its product.
+// second by 1, and the third, 3037000500 * 3037000500 + 3037000500, leaves 64 bits at its product. Which of its two
+// operators that is, data decides, so that line 8 is marked at its beginning.
 const DATA_TOLD: &str = "ok
-7 subthreads, 1 thread, 3 locks taken; at most 1 subthread side by side
+7 subthreads, 1 thread, 3 locks taken; at most 1 subthread side by side, as threads, locks, forks and joins allow
 line 8: arithmetic left 64 bits, once, first at position 5, thread 0: i = 2
+    $a = $a * 3037000500 + 3037000500;
+    ^
 line 9: arithmetic divided by 0, once, first at position 1, thread 0: i = 0
+    write r[0] = $a / i;
+                    ^
 line 16: arithmetic divided by 0, once, first at position 6, thread 0: i = 3
+    print -$a, $a % 0;
+                  ^
 ";
 
 const GIVEN: &str = "task t(n, $d) { print n, $d; }
@@ -501,9 +520,13 @@ task main() {
 ";
 
 const GIVEN_TOLD: &str = "ok
-6 subthreads, 3 threads, 0 locks taken; at most 2 subthreads side by side
+6 subthreads, 3 threads, 0 locks taken; at most 2 subthreads side by side, as threads, locks, forks and joins allow
 line 5: arithmetic left 64 bits, 2 times, first at position 1, thread 0: k = 9223372036854775807
+  fork t(k + 1, k * k);
+           ^
 line 7: arithmetic divided by 0, once, first at position 3, thread 0: k = 9223372036854775807
+  join 1 / 0 + 1;
+         ^
 ";
 
 const BOTH: &str = "task t(n, $d) {
@@ -516,16 +539,22 @@ task main() {
 ";
 
 const BOTH_TOLD: &str = "ok
-3 subthreads, 2 threads, 0 locks taken; at most 1 subthread side by side
+3 subthreads, 2 threads, 0 locks taken; at most 1 subthread side by side, as threads, locks, forks and joins allow
 line 3: arithmetic left 64 bits, once, first at position 2, thread 1: n = 5, x = 0
+  x = 9223372036854775807 + n; x = n / (n - n);
+                          ^
 line 3: arithmetic divided by 0, once, first at position 2, thread 1: n = 5, x = -9223372036854775804
+  x = 9223372036854775807 + n; x = n / (n - n);
+                                     ^
 ";
 
 const NO_NAMES: &str = "task main() { print 7 / 0; }";
 
 const NO_NAMES_TOLD: &str = "ok
-1 subthread, 1 thread, 0 locks taken; at most 1 subthread side by side
+1 subthread, 1 thread, 0 locks taken; at most 1 subthread side by side, as threads, locks, forks and joins allow
 line 1: arithmetic divided by 0, once, first at position 0, thread 0
+task main() { print 7 / 0; }
+                      ^
 ";
 
 const CELLS: &str = "lock l[3];
@@ -538,13 +567,13 @@ task main() { }
 
 // The file has a row for each cell of fees, and one too few for acct; sums has no file.
 const CELLS_TOLD: &str = "ok
-1 subthread, 1 thread, 0 locks taken; at most 1 subthread side by side
+1 subthread, 1 thread, 0 locks taken; at most 1 subthread side by side, as threads, locks, forks and joins allow
 arithmetic: exact in every line that ran
 hint: moves.csv gives 2 of the 3 cells of record acct another value than 0; from acct[2] on they begin with 0, as each cell without a row
 ";
 
 const NO_CELLS_TOLD: &str = "ok
-1 subthread, 1 thread, 0 locks taken; at most 1 subthread side by side
+1 subthread, 1 thread, 0 locks taken; at most 1 subthread side by side, as threads, locks, forks and joins allow
 arithmetic: exact in every line that ran
 hint: moves.csv gives 0 of the 3 cells of record acct another value than 0; from acct[0] on they begin with 0, as each cell without a row
 hint: moves.csv gives 0 of the 2 cells of record fees another value than 0; from fees[0] on they begin with 0, as each cell without a row

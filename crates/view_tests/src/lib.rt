@@ -6,6 +6,8 @@ mod blamed;
 #[cfg(test)]
 mod calls;
 #[cfg(test)]
+mod causes;
+#[cfg(test)]
 mod explained;
 #[cfg(test)]
 mod meant;

@@ -27,8 +27,9 @@ task main() {
 ";
 
 const UNSET_TOLD: &str = "ok
-7 subthreads, 2 threads, 1 lock taken; at most 1 subthread side by side
+7 subthreads, 2 threads, 1 lock taken; at most 1 subthread side by side, as threads, locks, forks and joins allow
 arithmetic: exact in every line that ran
+hint: no fork names task u, in line 13: it never runs
 hint: line 7 reads $x, which nothing sets: it is 0
 hint: line 9 reads m, which nothing sets: it is 0
 hint: line 19 reads $s, which nothing sets: it is 0
@@ -53,7 +54,7 @@ task main() {
 ";
 
 const LOST_TOLD: &str = "ok
-9 subthreads, 4 threads, 0 locks taken; at most 2 subthreads side by side
+9 subthreads, 4 threads, 0 locks taken; at most 2 subthreads side by side, as threads, locks, forks and joins allow
 arithmetic: exact in every line that ran
 hint: line 12 joins thread 1 without `into`, so the $ret of line 1 is lost
 hint: no join takes the $ret of line 3 from thread 2
@@ -84,7 +85,7 @@ task main() {
 ";
 
 const CROSSING_TOLD: &str = "ok
-13 subthreads, 3 threads, 4 locks taken; at most 2 subthreads side by side
+13 subthreads, 3 threads, 4 locks taken; at most 2 subthreads side by side, as threads, locks, forks and joins allow
 arithmetic: exact in every line that ran
 hint: thread 1 takes x[0] before y[0], in line 8, and thread 2 takes y[0] before x[0], in line 14: this run ended, and with other rows each may wait for the other
 ";
@@ -110,7 +111,7 @@ task main() {
 ";
 
 const GUARDED_TOLD: &str = "ok
-25 subthreads, 3 threads, 6 locks taken; at most 2 subthreads side by side
+25 subthreads, 3 threads, 6 locks taken; at most 2 subthreads side by side, as threads, locks, forks and joins allow
 arithmetic: exact in every line that ran
 ";
 
@@ -137,7 +138,7 @@ moves[2, 1]; moves has 2 rows, 0 to 1, of 2 fields, 0 to 1
           ^
 hint: the loop in line 4 goes on while i <= 2, and i came to 2
 thread 0: i = 2
-1 subthread, 1 thread, 0 locks taken; at most 1 subthread side by side
+1 subthread, 1 thread, 0 locks taken; at most 1 subthread side by side, as threads, locks, forks and joins allow
 arithmetic: exact in every line that ran
 ";
 
@@ -165,7 +166,7 @@ bank[k] with k = 2; bank has 2 cells, 0 to 1
            ^
 hint: the loop in line 5 goes on while i < 2, but behind that test i came to 2
 thread 0: i = 2, k = 2, n = 0
-3 subthreads, 1 thread, 1 lock taken; at most 1 subthread side by side
+3 subthreads, 1 thread, 1 lock taken; at most 1 subthread side by side, as threads, locks, forks and joins allow
 arithmetic: exact in every line that ran
 ";
 
@@ -182,7 +183,7 @@ moves[2, 0]; moves has 2 rows, 0 to 1, of 2 fields, 0 to 1
                             ^
 hint: all parts of a condition are read, also where i < 2 does not hold: read the cell behind that test
 thread 0: i = 2
-1 subthread, 1 thread, 0 locks taken; at most 1 subthread side by side
+1 subthread, 1 thread, 0 locks taken; at most 1 subthread side by side, as threads, locks, forks and joins allow
 arithmetic: exact in every line that ran
 ";
 
@@ -205,7 +206,7 @@ bank[who] with who = 3; bank has 3 cells, 0 to 2
          ^
 hint: who comes from a feed, in line 6: test such a number before it is an index, or take 1 off where the file counts from 1
 thread 0: i = 1, who = 3
-3 subthreads, 1 thread, 1 lock taken; at most 1 subthread side by side
+3 subthreads, 1 thread, 1 lock taken; at most 1 subthread side by side, as threads, locks, forks and joins allow
 arithmetic: exact in every line that ran
 ";
 
@@ -219,10 +220,10 @@ task main() {
 ";
 
 const JOINS_TOLD: &str = "stuck join thread 0 line 6
-thread 2 is joined; there are 2 threads, 0 to 1
+thread 2 is joined; there are 2 threads, 0 to 1, of which 1 was forked
 hint: the loop in line 6 goes on while i <= 2, and i came to 2
 thread 0: i = 2
-4 subthreads, 2 threads, 0 locks taken; at most 1 subthread side by side
+4 subthreads, 2 threads, 0 locks taken; at most 1 subthread side by side, as threads, locks, forks and joins allow
 arithmetic: exact in every line that ran
 ";
 
@@ -271,7 +272,7 @@ and 1 more thread
 hint: thread 0 keeps l[0] while it waits in line 13: give the lock back before
 thread 0 holds l[0], taken in line 8
 thread 0: i = 12
-26 subthreads, 13 threads, 1 lock taken; at most 2 subthreads side by side
+26 subthreads, 13 threads, 1 lock taken; at most 2 subthreads side by side, as threads, locks, forks and joins allow
 arithmetic: exact in every line that ran
 ";
 
@@ -289,7 +290,7 @@ thread 2 line 2 waits for barrier start
 barrier start: 1 of 2 threads is there: 2
 hint: thread 0 has ended, after line 6; thread 1, after line 2
 hint: barrier start is of 2 threads, and so many come to it: 3
-7 subthreads, 3 threads, 0 locks taken; at most 3 subthreads side by side
+7 subthreads, 3 threads, 0 locks taken; at most 3 subthreads side by side, as threads, locks, forks and joins allow
 arithmetic: exact in every line that ran
 ";
 
@@ -308,7 +309,7 @@ thread 0 forks in line 4, in the loop in line 4
 thread 0: i = 0
 hint: the condition of this loop may stay true:
 loop in line 4, 4096 turns since it was entered: i = 0; nothing in the loop sets it
-8191 subthreads, 4096 threads, 0 locks taken; at most 2 subthreads side by side
+8191 subthreads, 4096 threads, 0 locks taken; at most 2 subthreads side by side, as threads, locks, forks and joins allow
 arithmetic: exact in every line that ran
 hint: line 4 reads i, which nothing sets: it is 0
 ";
@@ -321,7 +322,7 @@ const CHAIN_TOLD: &str = "stuck threads thread 4095 line 1
 4096 threads are there, the most there may be
 hint: line 1 forked 4094 threads
 hint: thread 4095 was forked by thread 4094, that by thread 4093, and so on, 4095 threads deep: a task that forks itself has to end somewhere
-8191 subthreads, 4096 threads, 0 locks taken; at most 1 subthread side by side
+8191 subthreads, 4096 threads, 0 locks taken; at most 1 subthread side by side, as threads, locks, forks and joins allow
 arithmetic: exact in every line that ran
 ";
 
@@ -339,7 +340,7 @@ hint: line 3 forked 4094 threads
 hint: thread 4095 was forked by thread 4094, that by thread 4093, and so on, 4095 threads deep: a task that forks itself has to end somewhere
 thread 4095 forks in line 3, in the loop in line 3
 thread 4095: i = 0
-8191 subthreads, 4096 threads, 0 locks taken; at most 1 subthread side by side
+8191 subthreads, 4096 threads, 0 locks taken; at most 1 subthread side by side, as threads, locks, forks and joins allow
 arithmetic: exact in every line that ran
 ";
 
@@ -369,7 +370,7 @@ thread 1: i = 4
 hint: the condition of this loop may stay true:
 loop in line 5, 4 turns since it was entered: its condition names no control variable
 hint: --subthreads allows up to 200000, for a batch that ends
-10 subthreads, 2 threads, 3 locks taken; at most 1 subthread side by side
+10 subthreads, 2 threads, 3 locks taken; at most 1 subthread side by side, as threads, locks, forks and joins allow
 arithmetic: exact in every line that ran
 ";
 

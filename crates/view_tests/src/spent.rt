@@ -9,7 +9,7 @@ thread 0 took 10 loop turns in one subthread, last at the loop in line 1
 hint: the condition of this loop may stay true:
 loop in line 1, 10 turns since it was entered: its condition names no control variable
 hint: --turns allows up to 10000000, for a loop that ends
-1 subthread, 1 thread, 0 locks taken; at most 1 subthread side by side
+1 subthread, 1 thread, 0 locks taken; at most 1 subthread side by side, as threads, locks, forks and joins allow
 arithmetic: exact in every line that ran
 ";
 
@@ -29,7 +29,7 @@ hint: the condition of one of these loops may stay true, of the first most likel
 loop in line 5, 9 turns since it was entered: i = 2
 loop in line 3, 1 turn since it was entered: i = 2
 hint: --turns allows up to 10000000, for a loop that ends
-1 subthread, 1 thread, 0 locks taken; at most 1 subthread side by side
+1 subthread, 1 thread, 0 locks taken; at most 1 subthread side by side, as threads, locks, forks and joins allow
 arithmetic: exact in every line that ran
 ";
 
@@ -56,7 +56,7 @@ loop in line 5, 2 turns since it was entered: i = 2
 loop in line 3, 1 turn since it was entered: its condition names no control variable
 loop in line 8, 0 turns since it was entered: j = 0
 hint: --turns allows up to 10000000, for a loop that ends
-1 subthread, 1 thread, 0 locks taken; at most 1 subthread side by side
+1 subthread, 1 thread, 0 locks taken; at most 1 subthread side by side, as threads, locks, forks and joins allow
 arithmetic: exact in every line that ran
 ";
 
@@ -72,7 +72,7 @@ thread 1 took 3 loop turns in one subthread, last at the loop in line 1
 hint: the condition of this loop may stay true:
 loop in line 1, 3 turns since it was entered: its condition names no control variable
 hint: --turns allows up to 10000000, for a loop that ends
-3 subthreads, 2 threads, 0 locks taken; at most 1 subthread side by side
+3 subthreads, 2 threads, 0 locks taken; at most 1 subthread side by side, as threads, locks, forks and joins allow
 arithmetic: exact in every line that ran
 ";
 
@@ -90,7 +90,7 @@ const MANY_TOLD: &str = "spent 5
 hint: the condition of this loop may stay true:
 loop in line 3, 3 turns since it was entered: its condition names no control variable
 hint: --subthreads allows up to 200000, for a batch that ends
-5 subthreads, 1 thread, 2 locks taken; at most 1 subthread side by side
+5 subthreads, 1 thread, 2 locks taken; at most 1 subthread side by side, as threads, locks, forks and joins allow
 arithmetic: exact in every line that ran
 ";
 
@@ -119,7 +119,7 @@ hint: the condition of one of these loops may stay true, of the first most likel
 loop in line 7, 2 turns since it was entered: k = 1, n = 0, i = 0
 loop in line 5, 1 turn since it was entered: i = 0; nothing in the loop sets it
 hint: --subthreads allows up to 200000, for a batch that ends
-2 subthreads, 1 thread, 1 lock taken; at most 1 subthread side by side
+2 subthreads, 1 thread, 1 lock taken; at most 1 subthread side by side, as threads, locks, forks and joins allow
 arithmetic: exact in every line that ran
 hint: line 5 reads i, which nothing sets: it is 0
 hint: line 7 reads n, which nothing sets: it is 0
@@ -136,14 +136,14 @@ const BEGINS_TOLD: &str = "spent 2
 2 subthreads were begun; thread 1 would begin one more, at the beginning of task t
 thread 1: n = 7
 hint: --subthreads allows up to 200000, for a batch that ends
-2 subthreads, 1 thread, 0 locks taken; at most 1 subthread side by side
+2 subthreads, 1 thread, 0 locks taken; at most 1 subthread side by side, as threads, locks, forks and joins allow
 arithmetic: exact in every line that ran
 ";
 
 const FORKS_TOLD: &str = "spent 1
 1 subthread was begun; thread 0 line 3 would begin one more
 hint: --subthreads allows up to 200000, for a batch that ends
-1 subthread, 1 thread, 0 locks taken; at most 1 subthread side by side
+1 subthread, 1 thread, 0 locks taken; at most 1 subthread side by side, as threads, locks, forks and joins allow
 arithmetic: exact in every line that ran
 ";
 
@@ -161,7 +161,7 @@ hint: the condition of one of these loops may stay true, of the first most likel
 loop in line 2, 1 turn since it was entered: its condition names no control variable
 loop in line 3, 1 turn since it was entered: its condition names no control variable
 hint: --turns allows up to 10000000, for a loop that ends
-1 subthread, 1 thread, 0 locks taken; at most 1 subthread side by side
+1 subthread, 1 thread, 0 locks taken; at most 1 subthread side by side, as threads, locks, forks and joins allow
 arithmetic: exact in every line that ran
 ";
 
@@ -185,7 +185,7 @@ thread 1: n = 0
 hint: the condition of this loop may stay true:
 loop in line 3, 3 turns since it was entered: its condition names no control variable
 hint: --subthreads allows up to 200000, for a batch that ends
-12 subthreads, 3 threads, 4 locks taken; at most 2 subthreads side by side
+12 subthreads, 3 threads, 4 locks taken; at most 2 subthreads side by side, as threads, locks, forks and joins allow
 arithmetic: exact in every line that ran
 ";
 

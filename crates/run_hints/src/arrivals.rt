@@ -1,0 +1,159 @@
+// How often threads came to the barriers at which a run is stuck.
+
+use crate::ended::is_barrier;
+use gp_base::Name;
+use one_thread::{Standing, Step};
+use run_views::{push_between, push_number};
+use std::alloc::{AllocError, Global};
+use task_ast::Head;
+
+// How many stretches of thread numbers are told of a barrier.
+const MOST_STRETCHES: usize = 8;
+
+// Threads from one number to another that came to a barrier equally often.
+#[derive(Clone, Copy)]
+struct Arrivals {
+    from: usize,
+    to: usize,
+    count: u32,
+}
+
+// Whether a thread stands at the barrier of this number.
+fn is_waited_at(standing: &Standing, barrier: u32) -> bool {
+    for next in standing.nexts.as_slice() {
+        if let Some(next) = next {
+            if is_barrier(&next.sync, barrier) {
+                return true;
+            }
+        }
+    }
+    false
+}
+
+fn count_one(counts: &mut Vec<u32>, thread: usize) {
+    if let Some(count) = counts.get_mut(thread) {
+        *count = count.saturating_add(1);
+    }
+}
+
+// How often each thread came to a barrier, by its number.
+fn arrivals_at(
+    alloc: Global,
+    order: &[Step],
+    standing: &Standing,
+    barrier: u32,
+) -> Result<Vec<u32>, AllocError> {
+    let mut counts = Vec::from_elem(alloc, 0, standing.nexts.len())?;
+    for step in order {
+        if is_barrier(&step.begins.sync, barrier) {
+            count_one(&mut counts, step.thread.0 as usize);
+        }
+    }
+    for (thread, next) in standing.nexts.iter().enumerate() {
+        if let Some(next) = next {
+            if is_barrier(&next.sync, barrier) {
+                count_one(&mut counts, thread);
+            }
+        }
+    }
+    Ok(counts)
+}
+
+// Lets the last of the stretches go on to a thread that came as often as its threads did, or begins one.
+fn add_thread(stretches: &mut Vec<Arrivals>, thread: usize, count: u32) -> Result<(), AllocError> {
+    let last = stretches.len().saturating_sub(1);
+    if let Some(stretch) = stretches.get_mut(last) {
+        if stretch.count == count {
+            stretch.to = thread;
+            return Ok(());
+        }
+    }
+    stretches.push(Arrivals {
+        from: thread,
+        to: thread,
+        count,
+    })?;
+    Ok(())
+}
+
+fn stretches_of(alloc: Global, counts: &[u32]) -> Result<Vec<Arrivals>, AllocError> {
+    let mut stretches = Vec::new(alloc);
+    for (thread, count) in counts.iter().enumerate() {
+        add_thread(&mut stretches, thread, *count)?;
+    }
+    Ok(stretches)
+}
+
+// Appends how often the threads of a stretch came.
+fn push_stretch(text: &mut Vec<u8>, stretch: Arrivals) -> Result<(), AllocError> {
+    if stretch.from == stretch.to {
+        push_between(text, b"", stretch.count, b" by thread ")?;
+        return push_number(text, stretch.from);
+    }
+    push_between(text, b"", stretch.count, b" by threads ")?;
+    push_between(text, b"", stretch.from, b" to ")?;
+    push_number(text, stretch.to)
+}
+
+// Appends how often the threads came that came to a barrier of this name.
+fn push_stretches(
+    text: &mut Vec<u8>,
+    name: &Name,
+    stretches: &[Arrivals],
+) -> Result<(), AllocError> {
+    text.extend_from_slice(b"hint: arrivals at barrier ")?;
+    text.extend_from_slice(name.as_slice())?;
+    let mut between: &[u8] = b": ";
+    let mut told: usize = 0;
+    for stretch in stretches {
+        if stretch.count > 0 && told < MOST_STRETCHES {
+            text.extend_from_slice(between)?;
+            push_stretch(text, *stretch)?;
+            between = b", ";
+        }
+        if stretch.count > 0 {
+            told = told.saturating_add(1);
+        }
+    }
+    if told > MOST_STRETCHES {
+        text.extend_from_slice(b", and so on")?;
+    }
+    text.extend_from_slice(b"\n")
+}
+
+// Whether some thread came more than once.
+fn some_came_again(counts: &[u32]) -> bool {
+    for count in counts {
+        if *count > 1 {
+            return true;
+        }
+    }
+    false
+}
+
+/// Appends of each barrier at which threads stand how often each thread came to it, where one came more than once. The error
+/// is that memory is out.
+pub fn push_arrivals(
+    alloc: Global,
+    text: &mut Vec<u8>,
+    heads: &[Head],
+    order: &[Step],
+    standing: &Standing,
+) -> Result<(), AllocError> {
+    let mut number: u32 = 0;
+    for head in heads {
+        let Head::BarrierHead { name, .. } = head else {
+            continue;
+        };
+        let barrier = number;
+        number = number.saturating_add(1);
+        if !is_waited_at(standing, barrier) {
+            continue;
+        }
+        let counts = arrivals_at(alloc, order, standing, barrier)?;
+        if some_came_again(&counts) {
+            push_stretches(text, name, &stretches_of(alloc, &counts)?)?;
+        }
+    }
+    Ok(())
+}
