@@ -4,6 +4,7 @@ use crate::halted::Halted;
 use crate::indices::{env_of, push_index};
 use gp_base::{LockNo, ThreadNo, Why};
 use one_thread::{Standing, Step};
+use run_counts::Loop;
 use run_hints::{
     Place, is_given, push_alike, push_arrivals, push_bound, push_chain, push_circle, push_ended,
     push_forks, push_gathered, push_kept, push_loops, push_many, push_names, push_own_join,
@@ -237,12 +238,10 @@ fn push_too_many(
         push_loops(text, &loops)?;
         text.extend_from_slice(b"\n")?;
     }
-    let turned = if is_deep {
-        Vec::new(alloc)
-    } else {
-        halted.turned(alloc, thread, &loops)?
-    };
-    halted.push_values_of(alloc, text, thread, &turned)
+    let around: &[Loop<'_>] = if is_deep { &[] } else { &loops };
+    let turned = halted.turned(alloc, thread, around)?;
+    halted.push_values_of(alloc, text, thread, &turned)?;
+    Ok(())
 }
 
 /// Appends what is told of a run of a program with this text that is stuck at a thread and line, after its front. The error
@@ -262,7 +261,8 @@ pub fn push_stuck_details(
             push_alike(alloc, text, heads, standing)?;
             push_ended(alloc, text, halted.order, standing)?;
             push_gathered(alloc, text, heads, halted.order, standing)?;
-            push_arrivals(alloc, text, heads, halted.order, standing)?;
+            let (program, tasks) = (halted.program(), halted.tasks);
+            push_arrivals(alloc, text, program, tasks, halted.order, standing)?;
             push_own_join(text, standing)?;
             push_kept(text, heads, standing)?;
             push_holders(alloc, text, heads, halted.order, standing)?;

@@ -3,8 +3,11 @@
 use call_cases::Request;
 use gp_base::ThreadNo;
 use one_thread::{Standing, Step, run_reckoned};
-use run_counts::{Loop, Turned, Turns};
-use run_hints::{Branches, Place, Tasks, loops_at, push_conditions, push_forked, push_names};
+use run_counts::Loop;
+use run_hints::{
+    Branches, LoopTurns, Place, Tasks, loops_at, push_conditions, push_forked, push_names,
+    push_settled,
+};
 use std::alloc::{AllocError, Global};
 use task_ast::Program;
 
@@ -43,31 +46,33 @@ impl<'a> Halted<'a> {
         alloc: Global,
         thread: ThreadNo,
         loops: &[Loop<'a>],
-    ) -> Result<Vec<Turned<'a>>, AllocError> {
-        let mut turns = Turns::new(alloc, self.order, thread, loops)?;
+    ) -> Result<LoopTurns<'a>, AllocError> {
+        let mut turns = LoopTurns::new(alloc, self.order, thread, loops)?;
         if !loops.is_empty() {
             let limits = self.request.asked.limits;
             let (checked, inputs) = (&self.request.checked, &self.request.inputs);
             run_reckoned(alloc, checked, inputs, limits, &mut turns)?;
         }
-        Ok(turns.loops)
+        Ok(turns)
     }
 
-    /// Appends the control variables of a thread, and which of them the conditions of these loops name. The error is that
-    /// memory is out.
+    /// Appends the control variables of a thread, which of them the conditions of these loops name, and what sets these; and
+    /// answers whether that is what a record has. The error is that memory is out.
     pub fn push_values_of(
         &self,
         alloc: Global,
         text: &mut Vec<u8>,
         thread: ThreadNo,
-        loops: &[Turned<'a>],
-    ) -> Result<(), AllocError> {
-        match self.standing.names.get(thread.0 as usize) {
-            Some(names) => {
-                push_names(text, thread, names.as_slice())?;
-                push_conditions(alloc, text, loops, names.as_slice())
-            }
-            None => Ok(()),
+        loops: &LoopTurns<'a>,
+    ) -> Result<bool, AllocError> {
+        let Some(names) = self.standing.names.get(thread.0 as usize) else {
+            return Ok(false);
+        };
+        push_names(text, thread, names.as_slice())?;
+        let settings = push_conditions(alloc, text, loops, names.as_slice())?;
+        match self.tasks.task_of(self.program(), thread) {
+            Some(task) => push_settled(alloc, text, self.program(), task, &settings),
+            None => Ok(false),
         }
     }
 

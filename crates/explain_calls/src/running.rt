@@ -23,10 +23,10 @@ use call_cases::Request;
 use gp_base::{End, Seq, Text, Why};
 use one_thread::{PlainRun, Standing, run_reckoned, stand_before};
 use run_counts::Counting;
-use run_hints::{Tasks, push_crossing, push_results, push_unforked, push_unordered, push_unset};
+use run_hints::{Results, Tasks, push_crossing, push_unforked, push_unordered, push_unset};
 use run_views::{push_between, push_labelled, push_standing, why_word};
 use std::alloc::{AllocError, Global};
-use task_ast::{Head, Program};
+use task_ast::Head;
 
 /// What is told of a run, and how it ends.
 #[derive(Drop)]
@@ -119,20 +119,39 @@ fn front_of(
     }
 }
 
+// Appends how what threads give back is lost. The run is made once more where a loop joins some of them and leaves others out.
+fn push_results(
+    alloc: Global,
+    text: &mut Vec<u8>,
+    request: &Request,
+    run: &PlainRun,
+    tasks: &Tasks,
+) -> Result<(), AllocError> {
+    let program = request.checked.program();
+    let mut results = Results::new(alloc, program, run.order.as_slice(), tasks)?;
+    if results.wants_run() {
+        let limits = request.asked.limits;
+        let (checked, inputs) = (&request.checked, &request.inputs);
+        run_reckoned(alloc, checked, inputs, limits, &mut results)?;
+    }
+    results.push(alloc, text)
+}
+
 // Appends what in a run is likely not what was meant, though nothing stops at it.
 fn push_hints(
     alloc: Global,
     text: &mut Vec<u8>,
-    program: &Program,
+    request: &Request,
     run: &PlainRun,
     tasks: &Tasks,
 ) -> Result<(), AllocError> {
+    let program = request.checked.program();
     push_unforked(alloc, text, program)?;
     push_unset(alloc, text, program, tasks)?;
     match run.end {
         End::Finished => {
             push_unordered(alloc, text, program, run.order.as_slice(), tasks)?;
-            push_results(alloc, text, program, run.order.as_slice(), tasks)?;
+            push_results(alloc, text, request, run, tasks)?;
             push_crossing(alloc, text, program, run.order.as_slice())
         }
         End::Stuck { .. } | End::Spent(_) => Ok(()),
@@ -170,7 +189,7 @@ pub fn tell_of(alloc: Global, request: &Request, source: &[u8]) -> Result<Told, 
     };
     push_slips(alloc, &mut rest, noted)?;
     push_strikes(alloc, &mut rest, request, &run)?;
-    push_hints(alloc, &mut rest, program, &run, &tasks)?;
+    push_hints(alloc, &mut rest, request, &run, &tasks)?;
     push_first_cells(&mut rest, request)?;
     text.extend_from_slice(&rest)?;
     Ok(Told {

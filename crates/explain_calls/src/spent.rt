@@ -5,8 +5,8 @@ use call_cases::Request;
 use gp_base::limits::{MOST_SUBTHREADS, MOST_TURNS};
 use gp_base::{End, Limits, ThreadNo};
 use one_thread::{PlainRun, Step, run_plain, stand_before};
-use run_counts::{Counting, Loop, Turned};
-use run_hints::{Place, Tasks, busiest, push_loops, push_many, push_outer};
+use run_counts::{Counting, Loop};
+use run_hints::{Place, Tasks, busiest, push_ended_threads, push_loops, push_many, push_outer};
 use run_views::{push_between, push_labelled};
 use std::alloc::{AllocError, Global};
 use task_ast::SyncOp;
@@ -33,7 +33,7 @@ impl<'a> Halted<'a> {
         push_outer(text, &loops)?;
         text.extend_from_slice(b"\n")?;
         let mut turned = self.turned(alloc, step.thread, &loops)?;
-        drop_last_turn(&mut turned);
+        turned.drop_last_turn();
         self.push_values_of(alloc, text, step.thread, &turned)?;
         push_limit(
             text,
@@ -76,8 +76,11 @@ impl<'a> Halted<'a> {
         self.push_place(text, step, &loops)?;
         text.extend_from_slice(b"\n")?;
         let turned = self.turned(alloc, step.thread, &loops)?;
-        self.push_values_of(alloc, text, step.thread, &turned)?;
-        self.push_busiest(alloc, text, step.thread)
+        let goes_by_record = self.push_values_of(alloc, text, step.thread, &turned)?;
+        if self.push_busiest(alloc, text, step.thread)? || goes_by_record {
+            push_ended_threads(alloc, text, self.order, self.standing)?;
+        }
+        Ok(())
     }
 
     // The line in which a thread began its last subthread.
@@ -90,19 +93,20 @@ impl<'a> Halted<'a> {
         0
     }
 
-    // Appends which thread began more than half of the subthreads, in which loops, if it is another one.
+    // Appends which thread began more than half of the subthreads, in which loops, if it is another one; and answers whether
+    // what a record has sets a variable of these loops' conditions.
     fn push_busiest(
         &self,
         alloc: Global,
         text: &mut Vec<u8>,
         other: ThreadNo,
-    ) -> Result<(), AllocError> {
+    ) -> Result<bool, AllocError> {
         let (thread, count) = busiest(alloc, self.order)?;
         let line = self.last_line(thread);
         let loops = self.loops_of(alloc, thread, Place::Subthread(line))?;
         let is_most = count as usize > self.order.len() / 2;
         if thread.0 == other.0 || !is_most || loops.is_empty() {
-            return Ok(());
+            return Ok(false);
         }
         push_labelled(text, b"thread ", thread.0)?;
         push_labelled(text, b" began the most, ", count)?;
@@ -144,14 +148,6 @@ impl<'a> Halted<'a> {
             b"a batch",
             b"cut the batch into parts\n",
         )
-    }
-}
-
-// The last turn of the innermost loop was one too many, and was not taken.
-fn drop_last_turn(loops: &mut Vec<Turned<'_>>) {
-    let last = loops.len().saturating_sub(1);
-    if let Some(turned) = loops.get_mut(last) {
-        turned.turns = turned.turns.saturating_sub(1);
     }
 }
 

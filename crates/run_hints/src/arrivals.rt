@@ -1,14 +1,20 @@
-// How often threads came to the barriers at which a run is stuck.
+// How often threads came to the barriers at which a run is stuck, and in which lines.
 
 use crate::ended::is_barrier;
+use crate::loops::{Place, loops_at, push_loops};
+use crate::statements::statements_of;
+use crate::threads::Tasks;
+use crate::words::put_once;
 use gp_base::Name;
 use one_thread::{Standing, Step};
 use run_views::{push_between, push_number};
 use std::alloc::{AllocError, Global};
-use task_ast::Head;
+use task_ast::{Head, Program, TaskText, What};
 
-// How many stretches of thread numbers are told of a barrier.
+// How many stretches of thread numbers are told of a barrier, and how many of its lines.
 const MOST_STRETCHES: usize = 8;
+
+const MOST_LINES: usize = 8;
 
 // Threads from one number to another that came to a barrier equally often.
 #[derive(Clone, Copy)]
@@ -131,17 +137,80 @@ fn some_came_again(counts: &[u32]) -> bool {
     false
 }
 
-/// Appends of each barrier at which threads stand how often each thread came to it, where one came more than once. The error
-/// is that memory is out.
+// The lines of a task with a barrier of this name.
+fn barrier_lines(alloc: Global, task: &TaskText, name: &Name) -> Result<Vec<u32>, AllocError> {
+    let mut lines = Vec::new(alloc);
+    for stmt in &statements_of(alloc, task)? {
+        if let What::Barrier(other) = &stmt.what {
+            if other.as_slice() == name.as_slice() {
+                put_once(&mut lines, stmt.line)?;
+            }
+        }
+    }
+    Ok(lines)
+}
+
+// Appends the lines of a task with a barrier of this name, and the loops around each, after so many lines of other tasks; and
+// gives how many there are with these.
+fn push_task(
+    alloc: Global,
+    text: &mut Vec<u8>,
+    task: &TaskText,
+    name: &Name,
+    before: usize,
+) -> Result<usize, AllocError> {
+    let mut told = before;
+    for line in &barrier_lines(alloc, task, name)? {
+        if told < MOST_LINES {
+            text.extend_from_slice(if told == 0 {
+                b" stands in line "
+            } else {
+                b"; in line "
+            })?;
+            push_number(text, *line)?;
+            push_loops(text, &loops_at(alloc, task, Place::Subthread(*line))?)?;
+        }
+        told = told.saturating_add(1);
+    }
+    Ok(told)
+}
+
+// Appends in which lines the tasks of a run have a barrier of this name, and in which loops.
+fn push_lines(
+    alloc: Global,
+    text: &mut Vec<u8>,
+    program: &Program,
+    tasks: &Tasks,
+    name: &Name,
+) -> Result<(), AllocError> {
+    text.extend_from_slice(b"hint: barrier ")?;
+    text.extend_from_slice(name.as_slice())?;
+    let mut told: usize = 0;
+    let mut number: u32 = 0;
+    for task in program.tasks.as_slice() {
+        if tasks.are_run(number) {
+            told = push_task(alloc, text, task, name, told)?;
+        }
+        number = number.saturating_add(1);
+    }
+    if told > MOST_LINES {
+        text.extend_from_slice(b"; and so on")?;
+    }
+    text.extend_from_slice(b"\n")
+}
+
+/// Appends of each barrier at which threads stand how often each thread came to it, where one came more than once, and in which
+/// lines and loops it stands. The error is that memory is out.
 pub fn push_arrivals(
     alloc: Global,
     text: &mut Vec<u8>,
-    heads: &[Head],
+    program: &Program,
+    tasks: &Tasks,
     order: &[Step],
     standing: &Standing,
 ) -> Result<(), AllocError> {
     let mut number: u32 = 0;
-    for head in heads {
+    for head in program.heads.as_slice() {
         let Head::BarrierHead { name, .. } = head else {
             continue;
         };
@@ -153,6 +222,7 @@ pub fn push_arrivals(
         let counts = arrivals_at(alloc, order, standing, barrier)?;
         if some_came_again(&counts) {
             push_stretches(text, name, &stretches_of(alloc, &counts)?)?;
+            push_lines(alloc, text, program, tasks, name)?;
         }
     }
     Ok(())

@@ -11,10 +11,10 @@ use task_ast::{Env, Expr, Op, Stmt, TaskText, What, apply, eval_d};
 // How often the variables are followed from which an index is computed.
 const MOST_FOLLOWED: usize = 2;
 
-// A variable that is compared with a bound.
+/// A variable that is compared with a bound.
 #[derive(Clone, Copy)]
-struct Bound<'a> {
-    name: &'a Name,
+pub struct Bound<'a> {
+    pub name: &'a Name,
     op: Op,
     bound: &'a Expr,
 }
@@ -56,8 +56,8 @@ fn bound_by<'a>(names: &[&Name], left: &'a Expr, op: Op, right: &'a Expr) -> Opt
     }
 }
 
-// The first bound of one of these variables among the comparisons that a condition joins by `and`.
-fn bound_in<'a>(names: &[&Name], condition: &'a Expr) -> Option<Bound<'a>> {
+/// The first bound of one of these variables among the comparisons that a condition joins by `and`.
+pub fn bound_in<'a>(names: &[&Name], condition: &'a Expr) -> Option<Bound<'a>> {
     let Expr::Chain(first, links) = condition else {
         return None;
     };
@@ -147,16 +147,17 @@ pub fn fed_by<'a>(names: &[&Name], statements: &[&'a Stmt], line: u32) -> Option
     found
 }
 
-// What a bound came to, what its variable did, and whether the comparison of both holds.
+/// What a bound came to, what its variable did, and whether the comparison of both holds.
 #[derive(Clone, Copy)]
-struct Came<'a> {
-    bound: Bound<'a>,
+pub struct Came<'a> {
+    pub bound: Bound<'a>,
     limit: i64,
-    value: i64,
+    pub value: i64,
     holds: bool,
 }
 
-fn came_to<'a>(env: &Env, bound: Bound<'a>) -> Option<Came<'a>> {
+/// What a bound and its variable came to, or none where the bound has no value.
+pub fn came_to<'a>(env: &Env, bound: Bound<'a>) -> Option<Came<'a>> {
     let limit = eval_d(bound.bound, env)?;
     let value = value_of(env.names.as_slice(), bound.name);
     Some(Came {
@@ -203,8 +204,8 @@ fn loop_bound<'a>(names: &[&Name], loops: &[Loop<'a>], env: &Env) -> Option<(u32
     None
 }
 
-// Appends a comparison with the value of its bound.
-fn push_comparison(text: &mut Vec<u8>, came: Came<'_>) -> Result<(), AllocError> {
+/// Appends a comparison with the value of its bound. The error is that memory is out.
+pub fn push_comparison(text: &mut Vec<u8>, came: Came<'_>) -> Result<(), AllocError> {
     text.extend_from_slice(came.bound.name.as_slice())?;
     push_labelled(text, sign(came.bound.op), came.limit)
 }

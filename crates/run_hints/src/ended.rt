@@ -1,13 +1,21 @@
-// The threads that have ended, where others wait at a barrier, and how many come to one.
+// The threads that have ended, and how many come to a barrier.
 
 use gp_base::Name;
 use one_thread::{Standing, Step};
-use run_views::{push_between, push_labelled};
+use run_views::{push_between, push_labelled, push_number};
 use std::alloc::{AllocError, Global};
 use task_ast::{Head, Next, SyncOp, natural};
 
-// How many threads that have ended are told by their numbers.
-const MOST_ENDED: u64 = 8;
+// How many stretches of threads that have ended are told by their numbers.
+const MOST_ENDED: usize = 8;
+
+// Threads from one number to another that have ended, with the line of the last synchronisation of each, or 0.
+#[derive(Clone, Copy)]
+struct Ended {
+    from: u32,
+    to: u32,
+    line: u32,
+}
 
 fn is_at_barrier(next: &Option<Next>) -> bool {
     match next {
@@ -44,50 +52,98 @@ fn last_lines(alloc: Global, order: &[Step], count: usize) -> Result<Vec<u32>, A
     Ok(lines)
 }
 
-// Appends a thread that has ended, after so many others, with the line of its last synchronisation.
-fn push_one(text: &mut Vec<u8>, told: u64, thread: u32, line: u32) -> Result<(), AllocError> {
-    if told == 0 {
-        push_between(text, b"hint: thread ", thread, b" has ended")?;
-    } else {
-        push_labelled(text, b"; thread ", thread)?;
+// Lets the last of the stretches go on to a thread, or begins one.
+fn add_thread(stretches: &mut Vec<Ended>, thread: u32, line: u32) -> Result<(), AllocError> {
+    let last = stretches.len().saturating_sub(1);
+    if let Some(stretch) = stretches.get_mut(last) {
+        if stretch.line == line && stretch.to.saturating_add(1) == thread {
+            stretch.to = thread;
+            return Ok(());
+        }
     }
-    if line == 0 {
-        return Ok(());
-    }
-    push_labelled(text, b", after line ", line)
+    stretches.push(Ended {
+        from: thread,
+        to: thread,
+        line,
+    })?;
+    Ok(())
 }
 
-/// Appends which threads have ended, where others wait at a barrier: each with the line of its last synchronisation, of the first of them. The error is that
-/// memory is out.
+// The threads that have ended.
+fn ended_of(alloc: Global, order: &[Step], standing: &Standing) -> Result<Vec<Ended>, AllocError> {
+    let nexts = standing.nexts.as_slice();
+    let lines = last_lines(alloc, order, nexts.len())?;
+    let mut stretches = Vec::new(alloc);
+    let mut thread: u32 = 0;
+    for (next, line) in nexts.iter().zip(&lines) {
+        if has_ended(next) {
+            add_thread(&mut stretches, thread, *line)?;
+        }
+        thread = thread.saturating_add(1);
+    }
+    Ok(stretches)
+}
+
+// Appends threads that have ended, the first or others, with the line of the last synchronisation of each.
+fn push_stretch(text: &mut Vec<u8>, is_first: bool, ended: Ended) -> Result<(), AllocError> {
+    let is_one = ended.from == ended.to;
+    text.extend_from_slice(if is_first { b"hint: " } else { b"; " })?;
+    text.extend_from_slice(if is_one { b"thread " } else { b"threads " })?;
+    push_number(text, ended.from)?;
+    if !is_one {
+        push_labelled(text, b" to ", ended.to)?;
+    }
+    if is_first {
+        text.extend_from_slice(if is_one {
+            b" has ended"
+        } else {
+            b" have ended"
+        })?;
+    }
+    if ended.line == 0 {
+        return Ok(());
+    }
+    push_labelled(text, b", after line ", ended.line)
+}
+
+/// Appends which threads have ended, each with the line of its last synchronisation, of the first stretches of them. The error
+/// is that memory is out.
+pub fn push_ended_threads(
+    alloc: Global,
+    text: &mut Vec<u8>,
+    order: &[Step],
+    standing: &Standing,
+) -> Result<(), AllocError> {
+    let stretches = ended_of(alloc, order, standing)?;
+    if stretches.is_empty() {
+        return Ok(());
+    }
+    let mut left: u64 = 0;
+    for (told, ended) in stretches.iter().enumerate() {
+        if told < MOST_ENDED {
+            push_stretch(text, told == 0, *ended)?;
+        } else {
+            left = left.saturating_add(u64::from(ended.to.saturating_sub(ended.from)));
+            left = left.saturating_add(1);
+        }
+    }
+    if left > 0 {
+        push_between(text, b"; and ", left, b" more")?;
+    }
+    text.extend_from_slice(b"\n")
+}
+
+/// Appends which threads have ended, where others wait at a barrier. The error is that memory is out.
 pub fn push_ended(
     alloc: Global,
     text: &mut Vec<u8>,
     order: &[Step],
     standing: &Standing,
 ) -> Result<(), AllocError> {
-    let nexts = standing.nexts.as_slice();
-    if !some_at_barrier(nexts) {
+    if !some_at_barrier(standing.nexts.as_slice()) {
         return Ok(());
     }
-    let lines = last_lines(alloc, order, nexts.len())?;
-    let mut told: u64 = 0;
-    let mut thread: u32 = 0;
-    for (next, line) in nexts.iter().zip(&lines) {
-        if has_ended(next) {
-            if told < MOST_ENDED {
-                push_one(text, told, thread, *line)?;
-            }
-            told = told.saturating_add(1);
-        }
-        thread = thread.saturating_add(1);
-    }
-    if told > MOST_ENDED {
-        push_between(text, b"; and ", told.saturating_sub(MOST_ENDED), b" more")?;
-    }
-    if told == 0 {
-        return Ok(());
-    }
-    text.extend_from_slice(b"\n")
+    push_ended_threads(alloc, text, order, standing)
 }
 
 /// Whether a synchronisation is at the barrier of this number.

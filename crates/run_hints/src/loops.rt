@@ -1,11 +1,6 @@
-// The loops around a place, and what their conditions name.
+// The loops around a place.
 
-use crate::statements::{put_controls, statements_in, value_of};
-use crate::threads::push_variable;
-use crate::unset::control;
-use crate::words::push_many;
-use gp_base::Name;
-use run_counts::{Loop, Turned};
+use run_counts::Loop;
 use run_views::{push_labelled, push_number};
 use std::alloc::{AllocError, Global};
 use task_ast::{Stmt, TaskText, What};
@@ -110,86 +105,4 @@ pub fn push_loops(text: &mut Vec<u8>, loops: &[Loop<'_>]) -> Result<(), AllocErr
         push_labelled(text, b", in the loop in line ", inner.line)?;
     }
     push_outer(text, loops)
-}
-
-// Whether a statement of a block sets one of these control variables.
-fn some_are_set(alloc: Global, names: &[&Name], block: &[Stmt]) -> Result<bool, AllocError> {
-    let statements = statements_in(alloc, block)?;
-    for name in names {
-        if control(name).setting_line(&statements).is_some() {
-            return Ok(true);
-        }
-    }
-    Ok(false)
-}
-
-// Appends how many turns a loop took since it was entered, and the control variables that its condition names, with their
-// values.
-fn push_condition(
-    alloc: Global,
-    text: &mut Vec<u8>,
-    turned: Turned<'_>,
-    values: &[(Name, i64)],
-) -> Result<(), AllocError> {
-    let mut names = Vec::new(alloc);
-    put_controls(&mut names, turned.around.condition)?;
-    push_labelled(text, b"loop in line ", turned.around.line)?;
-    text.extend_from_slice(b", ")?;
-    push_many(text, turned.turns, b" turn")?;
-    text.extend_from_slice(b" since it was entered")?;
-    if names.is_empty() {
-        return text.extend_from_slice(b": its condition names no control variable\n");
-    }
-    let mut between: &[u8] = b": ";
-    for name in &names {
-        push_variable(text, between, name, value_of(values, name))?;
-        between = b", ";
-    }
-    if some_are_set(alloc, &names, turned.around.body)? {
-        return text.extend_from_slice(b"\n");
-    }
-    text.extend_from_slice(if names.len() == 1 {
-        b"; nothing in the loop sets it\n"
-    } else {
-        b"; nothing in the loop sets any of them\n"
-    })
-}
-
-// Puts a loop among others by its turns, after those with more of them, and after those around it with as many.
-fn put_by_turns<'a>(sorted: &mut Vec<Turned<'a>>, turned: Turned<'a>) -> Result<(), AllocError> {
-    let mut place: usize = 0;
-    for other in sorted.as_slice() {
-        if other.turns >= turned.turns {
-            place = place.saturating_add(1);
-        }
-    }
-    let place = place.min(sorted.len());
-    sorted.insert(place, turned)?;
-    Ok(())
-}
-
-/// Appends that the condition of one of these loops may stay true, and of each, that with the most turns first, its turns and
-/// the control variables that it names, with these values; nothing where there is no loop. The error is that memory is out.
-pub fn push_conditions(
-    alloc: Global,
-    text: &mut Vec<u8>,
-    loops: &[Turned<'_>],
-    values: &[(Name, i64)],
-) -> Result<(), AllocError> {
-    if loops.is_empty() {
-        return Ok(());
-    }
-    let mut sorted = Vec::new(alloc);
-    for turned in loops {
-        put_by_turns(&mut sorted, *turned)?;
-    }
-    text.extend_from_slice(if loops.len() == 1 {
-        b"hint: the condition of this loop may stay true:\n"
-    } else {
-        b"hint: the condition of one of these loops may stay true, of the first most likely:\n"
-    })?;
-    for turned in &sorted {
-        push_condition(alloc, text, *turned, values)?;
-    }
-    Ok(())
 }

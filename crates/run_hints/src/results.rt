@@ -1,14 +1,15 @@
 // What threads give back, and the joins that take it.
 
 use crate::statements::statements_of;
+use crate::taking::Taking;
 use crate::threads::Tasks;
 use crate::unset::{GIVEN_BACK, Variable};
 use crate::words::{at, put};
-use gp_base::ThreadNo;
-use one_thread::Step;
+use gp_base::{Name, ThreadNo};
+use one_thread::{Plainly, Reckon, Step};
 use run_views::{push_between, push_labelled};
 use std::alloc::{AllocError, Global};
-use task_ast::{Program, SyncOp, What};
+use task_ast::{Env, Expr, Program, SyncOp, What, eval_d};
 
 const RESULT: Variable<'static> = Variable {
     name: GIVEN_BACK,
@@ -132,21 +133,26 @@ fn push_loss(text: &mut Vec<u8>, thread: ThreadNo, loss: Loss) -> Result<(), All
     }
 }
 
-/// Appends how what threads give back is lost in a run that has ended, once for each task: a join takes it that it is not
-/// set for, or it is set and no join takes it. The error is that memory is out.
-pub fn push_results(
+// A thread whose task loses what it gives back, the first such of its task.
+#[derive(Clone, Copy)]
+struct Lost {
+    thread: ThreadNo,
+    task: u32,
+    loss: Loss,
+}
+
+// The first thread of each task that loses what it gives back.
+fn lost_of(
     alloc: Global,
-    text: &mut Vec<u8>,
     program: &Program,
-    order: &[Step],
     tasks: &Tasks,
-) -> Result<(), AllocError> {
-    let texts = texts_of(alloc, program)?;
-    let joins = joins_of(alloc, order, &texts)?;
+    texts: &Texts,
+    joins: &Joins,
+) -> Result<Vec<Lost>, AllocError> {
     let mut told = Vec::from_elem(alloc, false, program.tasks.len())?;
-    let mut thread = ThreadNo(1);
+    let mut lost = Vec::new(alloc);
     for number in 1..tasks.count() {
-        thread = ThreadNo(u32::try_from(number).unwrap_or(0));
+        let thread = ThreadNo(u32::try_from(number).unwrap_or(0));
         let Some(task) = tasks.number_of(thread) else {
             continue;
         };
@@ -155,9 +161,148 @@ pub fn push_results(
         };
         let loss = joins.loss_of(number, at(&texts.setting, task as usize));
         if let (Some(loss), false) = (loss, *told) {
-            push_loss(text, thread, loss)?;
+            lost.push(Lost { thread, task, loss })?;
             *told = true;
         }
     }
-    Ok(())
+    Ok(lost)
+}
+
+impl Joins {
+    // The line of the join that takes what the first thread of a task gives back, of those that are joined so.
+    fn line_of(&self, tasks: &Tasks, task: u32) -> Option<u32> {
+        let mut thread: u32 = 0;
+        for line in self.taken.as_slice() {
+            let is_one =
+                matches!(tasks.number_of(ThreadNo(thread)), Some(number) if number == task);
+            if *line != 0 && is_one {
+                return Some(*line);
+            }
+            thread = thread.saturating_add(1);
+        }
+        None
+    }
+
+    // The threads that the join in a line takes.
+    fn taken_in(&self, alloc: Global, line: u32) -> Result<Vec<u32>, AllocError> {
+        let mut threads = Vec::new(alloc);
+        let mut thread: u32 = 0;
+        for other in self.taken.as_slice() {
+            if *other == line {
+                threads.push(thread)?;
+            }
+            thread = thread.saturating_add(1);
+        }
+        Ok(threads)
+    }
+}
+
+// A loss, and the join that takes what other threads of the task give back, if there is one in a loop.
+#[derive(Drop)]
+struct Told<'a> {
+    lost: Lost,
+    // None or one.
+    taking: Vec<Taking<'a>>,
+}
+
+fn told_of<'a>(
+    alloc: Global,
+    program: &'a Program,
+    order: &'a [Step],
+    tasks: &Tasks,
+    joins: &Joins,
+    lost: Lost,
+) -> Result<Told<'a>, AllocError> {
+    let mut taking = Vec::new(alloc);
+    let line = match lost.loss {
+        Loss::Unjoined { .. } => joins.line_of(tasks, lost.task),
+        Loss::Joined { .. } | Loss::Unset { .. } => None,
+    };
+    if let Some(line) = line {
+        let threads = joins.taken_in(alloc, line)?;
+        if let Some(found) = Taking::new(alloc, program, order, tasks, line, threads)? {
+            taking.push(found)?;
+        }
+    }
+    Ok(Told { lost, taking })
+}
+
+/// How what threads give back is lost in a run that has ended, once for each task: a join takes it that it is not set for, or
+/// it is set and no join takes it. Where joins in a loop take that of other threads, a run tells how that loop ended.
+#[derive(Drop)]
+pub struct Results<'a> {
+    told: Vec<Told<'a>>,
+    line: u32,
+}
+
+impl<'a> Results<'a> {
+    /// What is lost in a run with these subthreads. The error is that memory is out.
+    pub fn new(
+        alloc: Global,
+        program: &'a Program,
+        order: &'a [Step],
+        tasks: &Tasks,
+    ) -> Result<Results<'a>, AllocError> {
+        let texts = texts_of(alloc, program)?;
+        let joins = joins_of(alloc, order, &texts)?;
+        let mut told = Vec::new(alloc);
+        for lost in &lost_of(alloc, program, tasks, &texts, &joins)? {
+            told.push(told_of(alloc, program, order, tasks, &joins, *lost)?)?;
+        }
+        Ok(Results { told, line: 0 })
+    }
+
+    /// Whether a run has to tell how a loop ended.
+    pub fn wants_run(&self) -> bool {
+        for told in self.told.as_slice() {
+            if !told.taking.is_empty() {
+                return true;
+            }
+        }
+        false
+    }
+
+    /// Appends what is lost, and of which threads it is taken. The error is that memory is out.
+    pub fn push(&self, alloc: Global, text: &mut Vec<u8>) -> Result<(), AllocError> {
+        for told in self.told.as_slice() {
+            push_loss(text, told.lost.thread, told.lost.loss)?;
+            if let Some(taking) = told.taking.first() {
+                taking.push(alloc, text)?;
+            }
+        }
+        Ok(())
+    }
+}
+
+impl<'a> Reckon for Results<'a> {
+    fn begin(&mut self) {
+        for told in self.told.iter_mut() {
+            if let Some(taking) = told.taking.get_mut(0) {
+                taking.begin();
+            }
+        }
+    }
+
+    fn at(&mut self, line: u32) {
+        self.line = line;
+        for told in self.told.iter_mut() {
+            if let Some(taking) = told.taking.get_mut(0) {
+                taking.at(line);
+            }
+        }
+    }
+
+    fn of_control(&mut self, e: &Expr, env: &Env) -> Option<i64> {
+        let line = self.line;
+        for told in self.told.iter_mut() {
+            if let Some(taking) = told.taking.get_mut(0) {
+                taking.note(line, e, env);
+            }
+        }
+        eval_d(e, env)
+    }
+
+    fn of_data(&mut self, e: &Expr, names: &[Name], env: &Env, registers: &[i64]) -> Option<i64> {
+        Plainly.of_data(e, names, env, registers)
+    }
 }

@@ -72,6 +72,28 @@ pub fn put_controls<'a>(names: &mut Vec<&'a Name>, e: &'a Expr) -> Result<(), Al
     }
 }
 
+/// Puts the data variables that an expression names after others, each once. The error is that memory is out.
+pub fn put_registers<'a>(names: &mut Vec<&'a Name>, e: &'a Expr) -> Result<(), AllocError> {
+    match e {
+        Expr::Reg(name) => {
+            if !is_among(names, name) {
+                names.push(name)?;
+            }
+            Ok(())
+        }
+        Expr::Neg(a) => put_registers(names, a),
+        Expr::Not(a) => put_registers(names, a),
+        Expr::Chain(first, links) => {
+            put_registers(names, first)?;
+            for link in links.as_slice() {
+                put_registers(names, &link.1)?;
+            }
+            Ok(())
+        }
+        _ => Ok(()),
+    }
+}
+
 /// The value of a control variable, or 0.
 pub fn value_of(names: &[(Name, i64)], name: &Name) -> i64 {
     for pair in names {

@@ -107,8 +107,8 @@ impl<'a> Variable<'a> {
         }
     }
 
-    // Whether a statement sets it, outside of its blocks.
-    fn is_set_by(self, what: &What) -> bool {
+    /// Whether a statement sets it, outside of its blocks.
+    pub fn is_set_by(self, what: &What) -> bool {
         match what {
             What::SetCtl(name, _) => self.is_control(name),
             What::Fork(_, _, Some(name)) => self.is_control(name),

@@ -216,13 +216,49 @@ thread 2 line 4 waits for barrier step
 barrier step: 2 of 3 threads are there: 1 2
 hint: thread 0 has ended, after line 12; thread 3, after line 4
 hint: arrivals at barrier step: 2 by threads 1 to 2, 1 by thread 3
+hint: barrier step stands in line 4, in the loop in line 3
 thread 1: n = 1
 thread 2: n = 1
 11 subthreads, 4 threads, 0 locks taken; at most 3 subthreads side by side, as threads, locks, forks and joins allow
 arithmetic: exact in every line that ran
 ";
 
-const ELSEWHERE: [Row; 5] = [
+// Thread 1 comes to the barrier in each district of its own, and wants to four times.
+const INNER: &str = "barrier week(2);
+task t(n) {
+  var w, d;
+  while w < 2 {
+    d = 0;
+    while d < n {
+      d = d + 1;
+      barrier week;
+    }
+    w = w + 1;
+  }
+}
+task u() { barrier week; }
+task main() {
+  fork t(2);
+  fork t(1);
+  join 1;
+  barrier week;
+}
+";
+
+const INNER_TOLD: &str = "stuck deadlock thread 0 line 17
+thread 0 line 17 waits for thread 1 to end
+thread 1 line 8 waits for barrier week
+barrier week: 1 of 2 threads is there: 1
+hint: thread 2 has ended, after line 8
+hint: arrivals at barrier week: 3 by thread 1, 2 by thread 2
+hint: barrier week stands in line 8, in the loop in line 6, in that of line 4; in line 18
+thread 1: n = 2, w = 1, d = 1
+9 subthreads, 3 threads, 0 locks taken; at most 2 subthreads side by side, as threads, locks, forks and joins allow
+arithmetic: exact in every line that ran
+hint: no fork names task u, in line 13: it never runs
+";
+
+const ELSEWHERE: [Row; 6] = [
     ("explain p.gp", FEWER, "1,2\n0,2\n3,4\n", 5, FEWER_TOLD, ""),
     (
         "explain p.gp",
@@ -235,6 +271,7 @@ const ELSEWHERE: [Row; 5] = [
     ("explain p.gp", GROUP, "", 5, GROUP_TOLD, ""),
     ("explain p.gp", SINKS, "", 5, SINKS_TOLD, ""),
     ("explain p.gp", AGAIN, "", 5, AGAIN_TOLD, ""),
+    ("explain p.gp", INNER, "", 5, INNER_TOLD, ""),
 ];
 
 const NEXT_ROW: &str = "feed moves[2] from \"moves.csv\";

@@ -178,6 +178,7 @@ thread 3 line 4 waits for barrier step
 barrier step: 2 of 3 threads are there: 1 3
 hint: thread 2 has ended, after line 4
 hint: arrivals at barrier step: 2 by thread 1, 1 by thread 2, 2 by thread 3
+hint: barrier step stands in line 4, in the loop in line 3
 thread 1: n = 1
 thread 3: n = 1
 10 subthreads, 4 threads, 0 locks taken; at most 3 subthreads side by side, as threads, locks, forks and joins allow
@@ -185,6 +186,31 @@ arithmetic: exact in every line that ran
 ";
 
 const ENDED: &str = "barrier step(2);
+barrier one(1);
+task t() { }
+task v() { barrier one; }
+task u() { barrier step; }
+task main() {
+  var i;
+  while i < 4 {
+    fork t();
+    fork v();
+    i = i + 1;
+  }
+  fork u();
+}
+";
+
+// Of nine threads that have ended eight are told; those of task t have no synchronisation.
+const ENDED_TOLD: &str = "stuck deadlock thread 9 line 5
+thread 9 line 5 waits for barrier step
+barrier step: 1 of 2 threads is there: 9
+hint: thread 0 has ended, after line 13; thread 1; thread 2, after line 4; thread 3; thread 4, after line 4; thread 5; thread 6, after line 4; thread 7; and 1 more
+23 subthreads, 10 threads, 0 locks taken; at most 3 subthreads side by side, as threads, locks, forks and joins allow
+arithmetic: exact in every line that ran
+";
+
+const ENDED_ALIKE: &str = "barrier step(2);
 task t() { }
 task u() { barrier step; }
 task main() {
@@ -197,11 +223,10 @@ task main() {
 }
 ";
 
-// Of nine threads that have ended eight are told; those of task t have no synchronisation.
-const ENDED_TOLD: &str = "stuck deadlock thread 9 line 3
+const ENDED_ALIKE_TOLD: &str = "stuck deadlock thread 9 line 3
 thread 9 line 3 waits for barrier step
 barrier step: 1 of 2 threads is there: 9
-hint: thread 0 has ended, after line 10; thread 1; thread 2; thread 3; thread 4; thread 5; thread 6; thread 7; and 1 more
+hint: thread 0 has ended, after line 10; threads 1 to 8
 19 subthreads, 10 threads, 0 locks taken; at most 2 subthreads side by side, as threads, locks, forks and joins allow
 arithmetic: exact in every line that ran
 ";
@@ -252,9 +277,10 @@ thread -1 is joined; there is 1 thread, 0, and nothing was forked
 arithmetic: exact in every line that ran
 ";
 
-const STUCK: [Row; 12] = [
+const STUCK: [Row; 13] = [
     ("explain p.gp", SOONER, "", 5, SOONER_TOLD, ""),
     ("explain p.gp", ENDED, "", 5, ENDED_TOLD, ""),
+    ("explain p.gp", ENDED_ALIKE, "", 5, ENDED_ALIKE_TOLD, ""),
     ("explain p.gp", AGAIN, "", 5, AGAIN_TOLD, ""),
     ("explain p.gp", ALONE, "", 5, ALONE_TOLD, ""),
     ("explain p.gp", DEADLOCK, "", 5, TWO_TOLD, ""),

@@ -115,6 +115,88 @@ const GUARDED_TOLD: &str = "ok
 arithmetic: exact in every line that ran
 ";
 
+const FEWER: &str = "task t(k) { $ret = k; }
+task main() {
+  var i, n, $x, $all;
+  n = 3;
+  while i < n {
+    fork t(i);
+    i = i + 1;
+  }
+  i = 1;
+  while i < n {
+    join i into $x;
+    $all = $all + $x;
+    i = i + 1;
+  }
+  i = 0;
+  print $all;
+}
+";
+
+// The value of i is that at the end of the loop.
+const FEWER_TOLD: &str = "ok
+9 subthreads, 4 threads, 0 locks taken; at most 2 subthreads side by side, as threads, locks, forks and joins allow
+arithmetic: exact in every line that ran
+hint: no join takes the $ret of line 1 from thread 3
+hint: line 11 joins threads 1 to 2; the loop in line 10 goes on while i < 3, and i came to 3
+";
+
+const STEPS: &str = "task t(k) { $ret = k; }
+task main() {
+  var i, n, $x, $all;
+  n = 5;
+  while i < n {
+    fork t(i);
+    i = i + 1;
+  }
+  i = 1;
+  while n >= i {
+    join i into $x;
+    $all = $all + $x;
+    i = i + 2;
+  }
+  print $all;
+}
+";
+
+const STEPS_TOLD: &str = "ok
+14 subthreads, 6 threads, 0 locks taken; at most 2 subthreads side by side, as threads, locks, forks and joins allow
+arithmetic: exact in every line that ran
+hint: no join takes the $ret of line 1 from thread 2
+hint: line 11 joins threads 1, 3, 5; the loop in line 10 goes on while i <= 5, and i came to 7
+";
+
+const DOWN: &str = "task t(k) { $ret = k; }
+task main() {
+  var n, $x, $all;
+  while n < 3 {
+    fork t(n);
+    n = n + 1;
+  }
+  n = 2;
+  while n {
+    join n into $x;
+    $all = $all + $x;
+    n = n - 1;
+  }
+  print $all;
+}
+";
+
+const DOWN_TOLD: &str = "ok
+9 subthreads, 4 threads, 0 locks taken; at most 2 subthreads side by side, as threads, locks, forks and joins allow
+arithmetic: exact in every line that ran
+hint: no join takes the $ret of line 1 from thread 3
+hint: line 10 joins threads 1 to 2
+";
+
+const JOINED: [Row; 3] = [
+    ("explain p.gp", FEWER, "", 0, FEWER_TOLD, ""),
+    ("explain p.gp", STEPS, "", 0, STEPS_TOLD, ""),
+    ("explain p.gp", DOWN, "", 0, DOWN_TOLD, ""),
+];
+
 const MEANT: [Row; 4] = [
     ("explain p.gp", UNSET, "", 0, UNSET_TOLD, ""),
     ("explain p.gp", LOST, "", 0, LOST_TOLD, ""),
@@ -398,5 +480,11 @@ fn bounds_are_told(rt: HostRuntime) -> Result<(), Fail> {
 #[test]
 fn halts_are_told(rt: HostRuntime) -> Result<(), Fail> {
     assert!(rt; are_told(rt.alloc(), &HALTS)?);
+    Ok(())
+}
+
+#[test]
+fn loops_of_joins_are_told(rt: HostRuntime) -> Result<(), Fail> {
+    assert!(rt; are_told(rt.alloc(), &JOINED)?);
     Ok(())
 }
