@@ -101,7 +101,7 @@ fn push_stretch(text: &mut Vec<u8>, is_first: bool, ended: Ended) -> Result<(), 
         })?;
     }
     if ended.line == 0 {
-        return Ok(());
+        return text.extend_from_slice(b", with no synchronisation");
     }
     push_labelled(text, b", after line ", ended.line)
 }

@@ -137,8 +137,8 @@ fn push_one(
     Ok(!records.is_empty())
 }
 
-/// Appends, where these lines of a task settle a value, from which records it comes, and which lines of the program write these;
-/// and answers whether there are such records. The error is that memory is out.
+/// Appends, where these lines of a task settle a value, from which records it comes, and which lines of the program write
+/// these; and answers whether there are such records. The error is that memory is out.
 pub fn push_settled(
     alloc: Global,
     text: &mut Vec<u8>,

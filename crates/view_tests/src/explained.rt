@@ -201,11 +201,11 @@ task main() {
 }
 ";
 
-// Of nine threads that have ended eight are told; those of task t have no synchronisation.
+// Of nine threads that have ended eight are told.
 const ENDED_TOLD: &str = "stuck deadlock thread 9 line 5
 thread 9 line 5 waits for barrier step
 barrier step: 1 of 2 threads is there: 9
-hint: thread 0 has ended, after line 13; thread 1; thread 2, after line 4; thread 3; thread 4, after line 4; thread 5; thread 6, after line 4; thread 7; and 1 more
+hint: thread 0 has ended, after line 13; thread 1, with no synchronisation; thread 2, after line 4; thread 3, with no synchronisation; thread 4, after line 4; thread 5, with no synchronisation; thread 6, after line 4; thread 7, with no synchronisation; and 1 more
 23 subthreads, 10 threads, 0 locks taken; at most 3 subthreads side by side, as threads, locks, forks and joins allow
 arithmetic: exact in every line that ran
 ";
@@ -226,7 +226,7 @@ task main() {
 const ENDED_ALIKE_TOLD: &str = "stuck deadlock thread 9 line 3
 thread 9 line 3 waits for barrier step
 barrier step: 1 of 2 threads is there: 9
-hint: thread 0 has ended, after line 10; threads 1 to 8
+hint: thread 0 has ended, after line 10; threads 1 to 8, with no synchronisation
 19 subthreads, 10 threads, 0 locks taken; at most 2 subthreads side by side, as threads, locks, forks and joins allow
 arithmetic: exact in every line that ran
 ";

@@ -308,7 +308,7 @@ hint: the condition of this loop may stay true:
 loop in line 17, 4 turns since it was entered: back = 2
 hint: in this loop back is set in line 21 alone
 hint: the settle in line 21 goes by record back, read in line 19, which line 8 alone writes
-hint: threads 1 to 2 have ended, after line 9; thread 3
+hint: threads 1 to 2 have ended, after line 9; thread 3, with no synchronisation
 hint: --subthreads allows up to 200000, for a batch that ends
 20 subthreads, 4 threads, 5 locks taken; at most 3 subthreads side by side, as threads, locks, forks and joins allow
 arithmetic: exact in every line that ran
