@@ -16,12 +16,12 @@ returns-in-Ok-clause-lines g c =
 
 pub returns-in-Err-clause-journal : goal.returns-in-Err-clause-journal
 returns-in-Err-clause-journal g c =
-    no-journal (batch_of c.args.recovery c.args.w.now c.args.inputs c.args.limits c.args.faults) c.new-in-Err.result c.new-in-Err-2.result
+    no-journal (batch_of c.args.recovery c.args.work.now c.args.inputs c.args.limits c.args.faults) c.new-in-Err.result c.new-in-Err-2.result
     c.new-in-Err.ensures c.new-in-Err-2.ensures
 
 pub returns-in-Err-clause-partly : goal.returns-in-Err-clause-partly
 returns-in-Err-clause-partly g c =
-    no-lines (batch_of c.args.recovery c.args.w.now c.args.inputs c.args.limits c.args.faults) (g.O.Sink.written c.args.out.now)
+    no-lines (batch_of c.args.recovery c.args.work.now c.args.inputs c.args.limits c.args.faults) (g.O.Sink.written c.args.out.now)
     c.new-in-Err.result c.new-in-Err-2.result c.new-in-Err.ensures
 
 pub returns-in-Ok-clause-notes : goal.returns-in-Ok-clause-notes
@@ -32,6 +32,6 @@ returns-in-Ok-clause-notes g c =
 
 pub returns-in-Err-clause-notes : goal.returns-in-Err-clause-notes
 returns-in-Err-clause-notes g c =
-    no-notes (batch_of c.args.recovery c.args.w.now c.args.inputs c.args.limits c.args.faults) (g.N.Notes.tells c.args.notes.now)
+    no-notes (batch_of c.args.recovery c.args.work.now c.args.inputs c.args.limits c.args.faults) (g.N.Notes.tells c.args.notes.now)
     g.N.Notes.part (g.L.Sink.written c.args.log.now) OutOfMemory c.new-in-Err.result c.new-in-Err-2.result c.new-in-Err.ensures
     c.new-in-Err-2.ensures
