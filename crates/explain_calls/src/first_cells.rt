@@ -30,7 +30,7 @@ fn push_cells(
         text,
         b"[",
         cells.len().saturating_sub(last),
-        b"] on they begin with 0, as each cell without a row\n",
+        b"] on they begin with 0: they have no row, or one that says 0\n",
     )
 }
 

@@ -595,14 +595,14 @@ task main() { }
 const CELLS_TOLD: &str = "ok
 1 subthread, 1 thread, 0 locks taken; at most 1 subthread side by side, as threads, locks, forks and joins allow
 arithmetic: exact in every line that ran
-hint: moves.csv gives 2 of the 3 cells of record acct another value than 0; from acct[2] on they begin with 0, as each cell without a row
+hint: moves.csv gives 2 of the 3 cells of record acct another value than 0; from acct[2] on they begin with 0: they have no row, or one that says 0
 ";
 
 const NO_CELLS_TOLD: &str = "ok
 1 subthread, 1 thread, 0 locks taken; at most 1 subthread side by side, as threads, locks, forks and joins allow
 arithmetic: exact in every line that ran
-hint: moves.csv gives 0 of the 3 cells of record acct another value than 0; from acct[0] on they begin with 0, as each cell without a row
-hint: moves.csv gives 0 of the 2 cells of record fees another value than 0; from fees[0] on they begin with 0, as each cell without a row
+hint: moves.csv gives 0 of the 3 cells of record acct another value than 0; from acct[0] on they begin with 0: they have no row, or one that says 0
+hint: moves.csv gives 0 of the 2 cells of record fees another value than 0; from fees[0] on they begin with 0: they have no row, or one that says 0
 ";
 
 const EXACT: [Row; 8] = [
