@@ -3,7 +3,7 @@
 use crate::statements::statements_of;
 use crate::threads::{Tasks, child_of};
 use crate::words::{at, push_many, put};
-use gp_base::{Loc, Name, ThreadNo};
+use gp_base::{Footprint, Loc, Name, ThreadNo};
 use one_thread::Step;
 use run_views::{push_labelled, push_record};
 use std::alloc::{AllocError, Global};
@@ -150,6 +150,17 @@ const NOTHING: CellReads = CellReads {
     found: None,
 };
 
+// What was found, unless it is of a read by this thread.
+fn other_than(found: Option<Unordered>, thread: ThreadNo) -> Option<Unordered> {
+    let Some(pair) = found else {
+        return None;
+    };
+    if pair.read.thread.0 == thread.0 {
+        return None;
+    }
+    Some(pair)
+}
+
 // The cells, and by thread the position plus 1 at which it last waited for others, or was forked.
 #[derive(Drop)]
 struct Accesses {
@@ -158,17 +169,17 @@ struct Accesses {
 }
 
 impl Accesses {
-    fn read(&mut self, cell: u32, place: Access) {
-        if let Some(cell) = self.cells.get_mut(cell as usize) {
-            cell.read = Some(place);
-            if matches!(cell.found, Some(found) if found.read.thread.0 == place.thread.0) {
-                cell.found = None;
-            }
+    fn read(&mut self, cell: u32, place: &Access) {
+        let number = cell as usize;
+        if number < self.cells.len() {
+            let found = other_than(self.cells[number].found, place.thread);
+            let read = Some(*place);
+            self.cells[number] = CellReads { read, found };
         }
     }
 
     // A write comes behind a read where its thread has waited for others since then.
-    fn write(&mut self, cell: u32, place: Access) {
+    fn write(&mut self, cell: u32, place: &Access) {
         let since = at(&self.waited, place.thread.0 as usize);
         let Some(cell) = self.cells.get_mut(cell as usize) else {
             return;
@@ -180,7 +191,7 @@ impl Accesses {
         if is_unordered && cell.found.is_none() {
             cell.found = Some(Unordered {
                 read,
-                written: place,
+                written: *place,
             });
         }
     }
@@ -199,6 +210,31 @@ impl Accesses {
         }
     }
 
+    // A read by a thread of this task, of a cell that the task only reads.
+    fn read_at(&mut self, lists: &OnlyRead, task: u32, loc: &Loc, place: &Access) {
+        if let Loc::Rec(cell) = loc
+            && lists.has(task, cell.0)
+        {
+            self.read(cell.0, place);
+        }
+    }
+
+    fn write_at(&mut self, loc: &Loc, place: &Access) {
+        if let Loc::Rec(cell) = loc {
+            self.write(cell.0, place);
+        }
+    }
+
+    // What a subthread of a thread of this task reads and writes.
+    fn touch(&mut self, lists: &OnlyRead, task: u32, foot: &Footprint, place: &Access) {
+        for loc in foot.reads.as_slice() {
+            self.read_at(lists, task, loc, place);
+        }
+        for loc in foot.writes.as_slice() {
+            self.write_at(loc, place);
+        }
+    }
+
     // One subthread more, of a thread of this task.
     fn note(
         &mut self,
@@ -213,18 +249,7 @@ impl Accesses {
             position,
             line: step.begins.line,
         };
-        for loc in step.foot.reads.as_slice() {
-            if let Loc::Rec(cell) = loc {
-                if lists.has(task, cell.0) {
-                    self.read(cell.0, place);
-                }
-            }
-        }
-        for loc in step.foot.writes.as_slice() {
-            if let Loc::Rec(cell) = loc {
-                self.write(cell.0, place);
-            }
-        }
+        self.touch(lists, task, &step.foot, &place);
         Ok(())
     }
 }
