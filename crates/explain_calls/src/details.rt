@@ -4,7 +4,6 @@ use crate::halted::Halted;
 use crate::indices::{env_of, push_index};
 use gp_base::{LockNo, ThreadNo, Why};
 use one_thread::{Standing, Step};
-use run_counts::Loop;
 use run_hints::{
     Place, is_given, push_alike, push_arrivals, push_bound, push_chain, push_circle, push_ended,
     push_forks, push_gathered, push_kept, push_loops, push_many, push_names, push_own_join,
@@ -238,8 +237,10 @@ fn push_too_many(
         push_loops(text, &loops)?;
         text.extend_from_slice(b"\n")?;
     }
-    let around: &[Loop<'_>] = if is_deep { &[] } else { &loops };
-    let turned = halted.turned(alloc, thread, around)?;
+    if is_deep {
+        return halted.push_names_of(text, thread);
+    }
+    let turned = halted.turned(alloc, thread, &loops)?;
     halted.push_values_of(alloc, text, thread, &turned)?;
     Ok(())
 }

@@ -56,6 +56,14 @@ impl<'a> Halted<'a> {
         Ok(turns)
     }
 
+    /// Appends the control variables of a thread. The error is that memory is out.
+    pub fn push_names_of(&self, text: &mut Vec<u8>, thread: ThreadNo) -> Result<(), AllocError> {
+        match self.standing.names.get(thread.0 as usize) {
+            Some(names) => push_names(text, thread, names.as_slice()),
+            None => Ok(()),
+        }
+    }
+
     /// Appends the control variables of a thread, which of them the conditions of these loops name, and what sets these; and
     /// answers whether that is what a record has. The error is that memory is out.
     pub fn push_values_of(
