@@ -6,3 +6,4 @@ pub mod Readiness
 pub mod Staged
 pub mod Watching
 pub mod Unknown
+pub mod Touching

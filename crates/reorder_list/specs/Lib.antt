@@ -3,3 +3,4 @@ pub mod Places
 pub mod Runnable
 pub mod Stages
 pub mod Watched
+pub mod Touching

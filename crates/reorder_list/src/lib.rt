@@ -12,6 +12,7 @@ mod marks;
 mod report;
 mod rol;
 mod search;
+pub mod touched;
 
 pub use entry::{Entry, State};
 pub use report::{EngineStop, Report, StopWhy};

@@ -15,8 +15,8 @@ use Rattle.dependence.proofs.Conflicting.{conflicting-is}
 use Rattle.reorder_list.specs.declared.entry.Entry.{Entry}
 use Rattle.reorder_list.specs.Entries.{known_foot}
 use Rattle.restart.specs.Redo.{clash_between, clash_of}
-use Rattle.restart.specs.declared.touched.Touched.{Touched}
-use Rattle.restart.specs.inner.Touching.{IsMarked, KeepsMarks, IsClearPast}
+use Rattle.reorder_list.specs.declared.touched.Touched.{Touched}
+use Rattle.reorder_list.specs.Touching.{IsMarked, KeepsMarks, IsClearPast}
 use Rattle.restart.specs.inner.Marked.{AllMarked}
 
 -- what an entry touches, where there is one

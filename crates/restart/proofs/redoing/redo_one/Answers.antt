@@ -1,6 +1,6 @@
 use Rattle.std.proofs.Common.{◌≡◌, ◌∙◌, ◌+◌, length, Some, None, ap, sym, subst}
 use Rattle.reorder_list.specs.Entries.{known_foot}
-use Rattle.restart.specs.inner.Touching.{IsMarked}
+use Rattle.reorder_list.specs.Touching.{IsMarked}
 use Rattle.restart.proofs.Marked.{foot_in, length-push, one-marked}
 use Rattle.restart.proofs.redoing.redo_one.Goals as goal
 

@@ -3,9 +3,9 @@ use Rattle.std.specs.Prelude.{slice_index}
 use Rattle.std.proofs.Math.Nat.{le-max_left, le-max_right}
 use Rattle.std.proofs.lemmas.List.{take_all}
 use Rattle.gp_base.specs.declared.footprint.Loc.{Loc}
-use Rattle.restart.specs.inner.Touching.{mark_of}
-use Rattle.restart.proofs.Touching.{within-more}
-use Rattle.restart.proofs.touched.greatest_mark.Goals as goal
+use Rattle.reorder_list.specs.Touching.{mark_of}
+use Rattle.reorder_list.proofs.Touching.{within-more}
+use Rattle.reorder_list.proofs.touched.greatest_mark.Goals as goal
 
 pub loop-loc-preserved : goal.loop-loc-preserved
 loop-loc-preserved c =

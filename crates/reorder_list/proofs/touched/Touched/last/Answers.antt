@@ -1,9 +1,9 @@
 use Rattle.std.proofs.Common.{◌≡◌, ◌≤◌, ℕ, max, List, All, subst, arith}
 use Rattle.std.proofs.Math.Nat.{le-max_left, le-max_right}
 use Rattle.gp_base.specs.declared.footprint.Loc.{Loc}
-use Rattle.restart.specs.inner.Touching.{mark_of}
-use Rattle.restart.proofs.Touching.{within-all, clear-past}
-use Rattle.restart.proofs.touched.Touched.last.Goals as goal
+use Rattle.reorder_list.specs.Touching.{mark_of}
+use Rattle.reorder_list.proofs.Touching.{within-all, clear-past}
+use Rattle.reorder_list.proofs.touched.Touched.last.Goals as goal
 
 pub returns : goal.returns
 returns c =

@@ -1,16 +1,16 @@
-// What the positions that are redone touch, by buckets of locations.
+// What was marked last of those that touch a location, by buckets of locations.
 
 ghost use Rattle.std.specs.Prelude.{◌≡◌, ◌<◌, ◌≤◌, All};
-ghost use Rattle.restart.specs.inner.Touching.{bucket, bucket_of, mark_of, Grows, IsMarked, KeepsMarks, IsClearPast};
+ghost use Rattle.reorder_list.specs.Touching.{bucket, bucket_of, mark_of, Grows, IsMarked, KeepsMarks, IsClearPast};
 
 use gp_base::{Footprint, Loc};
 
 /// Locations fall into so many buckets.
 pub const BUCKETS: usize = 4096;
 
-/// Of each bucket, how many positions are redone up to the last that reads a location of it, and up to the last that
-/// writes one. So it is seen of most entries, without a look at those that are redone, that they are in conflict with
-/// none of them. It is a value of fixed size: a restart takes no memory.
+/// Of each bucket, the greatest mark of what reads a location of it, and of what writes one. So where marks rise, it is
+/// seen of most footprints, without a look at those that were marked, with which of these they can be in conflict. It
+/// is a value of fixed size: it takes no memory.
 #[derive(Drop)]
 pub struct Touched {
     pub reads: [u32; BUCKETS],
@@ -39,13 +39,13 @@ fn bucket_of(loc: &Loc) -> usize
 }
 
 // Marks the buckets of the locations with this number, but for those that have a greater mark.
-fn mark_each(marks: &mut [u32; BUCKETS], locations: &[Loc], many: u32)
-    ensures marked { All (λ loc. many ≤ mark_of marks.new loc) locations.now }
+fn mark_each(marks: &mut [u32; BUCKETS], locations: &[Loc], mark: u32)
+    ensures marked { All (λ loc. mark ≤ mark_of marks.new loc) locations.now }
     ensures grows { Grows marks.old marks.new }
 {
     for loc in locations {
         let bucket = bucket_of(loc);
-        marks[bucket] = marks[bucket].max(many);
+        marks[bucket] = marks[bucket].max(mark);
     }
 }
 
@@ -61,7 +61,7 @@ fn greatest_mark(marks: &[u32; BUCKETS], locations: &[Loc]) -> u32
 }
 
 impl Touched {
-    /// Nothing is redone. Takes no memory.
+    /// Nothing is marked.
     pub fn new() -> Touched {
         Touched {
             reads: [0; BUCKETS],
@@ -69,16 +69,16 @@ impl Touched {
         }
     }
 
-    /// Marks what is touched by the last of so many that are redone.
-    pub fn mark(&mut self, foot: &Footprint, many: u32)
-        ensures marked { IsMarked self.new many foot.now }
+    /// Marks what this footprint touches, but for what has a greater mark.
+    pub fn mark(&mut self, foot: &Footprint, mark: u32)
+        ensures marked { IsMarked self.new mark foot.now }
         ensures kept { KeepsMarks self.old self.new }
     {
-        mark_each(&mut self.reads, foot.reads.as_slice(), many);
-        mark_each(&mut self.writes, foot.writes.as_slice(), many);
+        mark_each(&mut self.reads, foot.reads.as_slice(), mark);
+        mark_each(&mut self.writes, foot.writes.as_slice(), mark);
     }
 
-    /// How many are redone up to the last that may be in conflict with the footprint.
+    /// The greatest mark of those that may be in conflict with the footprint.
     pub fn last(&self, foot: &Footprint) -> u32
         ensures { IsClearPast self.now result foot.now }
     {

@@ -9,8 +9,8 @@ use Rattle.std.proofs.lemmas.List.Elements.{All-contains, All-more, All-weaker}
 use Rattle.gp_base.specs.declared.footprint.Loc.{Loc}
 use Rattle.gp_base.specs.declared.footprint.Footprint.{Footprint}
 use Rattle.dependence.specs.Conflict.{Shared}
-use Rattle.restart.specs.declared.touched.Touched.{Touched}
-use Rattle.restart.specs.inner.Touching.{bucket_of, mark_of, Grows, KeepsMarks, IsClearPast}
+use Rattle.reorder_list.specs.declared.touched.Touched.{Touched}
+use Rattle.reorder_list.specs.Touching.{bucket_of, mark_of, Grows, KeepsMarks, IsClearPast}
 
 -- no mark falls where one is raised
 pub raised : (marks : List ℕ) (at many : ℕ) → at < length marks → Grows marks (slice_set marks at (max (slice_index marks at) many))
