@@ -4,21 +4,24 @@
 -- is shown once for any test: under a change, with one more entry, without the first, and past one more place. An entry
 -- that waits outside of what has to be looked at again is in the watch of one that holds it up. Where that one is
 -- applied, what has to be looked at grows by its watch.
-use Rattle.std.proofs.Common.{◌≡◌, ◌⊎◌, ◌↔◌, inl, inr, ℕ, zero, suc, ◌+◌, ◌<◌, ◌≤◌, min, Bool, true, false, cond, nat_eq, not, IsTrue, List, [], ◌∷◌, ◌++◌, length, drop, get_or, slice_get, slice_set, Option, Some, None, IfSome, IfNone, refl, sym, ap, subst, ◌∙◌, arith}
+use Rattle.std.proofs.Common.{◌≡◌, ◌⊎◌, ◌↔◌, inl, inr, ℕ, zero, suc, ◌+◌, ◌<◌, ◌≤◌, min, Bool, true, false, cond, nat_eq, not, IsTrue, List, [], ◌∷◌, ◌++◌, length, length-append, drop, get_or, slice_get, slice_set, Option, Some, None, IfSome, IfNone, refl, sym, ap, subst, ◌∙◌, arith}
 use Rattle.std.specs.Prelude.{is_some, unwrap_or}
 use Rattle.std.specs.Option.{option_or}
 use Rattle.std.proofs.lemmas.Bool.{false≢true, both_ways, ne_eqb, eq-eqb, eqb-true, cases_eq, cases_lt}
+use Rattle.task_ast.proofs.IssuedTables.{get_last}
 use Rattle.dependence.specs.Conflict.{Conflict}
 use Rattle.reorder_list.specs.declared.entry.Entry.{Entry}
 use Rattle.reorder_list.specs.declared.entry.State.{State}
 use Rattle.reorder_list.specs.declared.entry.State.TheVariants.{Waiting}
 use Rattle.reorder_list.specs.declared.marks.Marks.{Marks}
 use Rattle.reorder_list.specs.declared.marks.Watch.{Watch}
-use Rattle.reorder_list.specs.Entries.{StandFrom, first_position, IsInRow, entry_at, is_waiting, is_applied, with_change}
+use Rattle.reorder_list.specs.declared.touched.Touched.{Touched}
+use Rattle.reorder_list.specs.Entries.{StandFrom, first_position, IsInRow, ComesNext, entry_at, is_waiting, is_applied, with_change}
 use Rattle.reorder_list.specs.Places.{IsPlaceOf, IsKept}
 use Rattle.reorder_list.specs.Runnable.{AllLetPass, IsRunnable, IsFirstRunnable, NoneRunnable}
-use Rattle.reorder_list.specs.Watched.{HoldsUp, IsReady, watch_at, IsHeldUp, IsLooked, AreLooked, AreAsleep, IsWider, AreWider, Below, AllApplied, AreMarks, waking, narrowed, unknown_in, IsUpheld}
-use Rattle.reorder_list.proofs.Rows.{before-first, read-at}
+use Rattle.reorder_list.specs.Touching.{IsMarked, KeepsMarks, IsClearPast}
+use Rattle.reorder_list.specs.Watched.{HoldsUp, IsReady, watch_at, IsHeldUp, IsLooked, AreLooked, AreAsleep, IsWider, AreWider, Below, AllApplied, AreMarks, IsClear, AreClear, AllTouched, waking, narrowed, unknown_in, IsUpheld}
+use Rattle.reorder_list.proofs.Rows.{before-first, read-at, next-is, row-push}
 use Rattle.reorder_list.proofs.Readiness.{one-entry, waits-is, applied-is, read-there, read-position}
 use Rattle.reorder_list.proofs.Changes.{KeepsPosition, changed_where, changed, same-position, pushed, from-first, same-length}
 use Rattle.reorder_list.proofs.Staged.{changed-there}
@@ -90,7 +93,7 @@ watch-there b (e ∷ entries) (u ∷ watches) q (suc k) w stands l is there =
     (watch-there (suc b) entries watches q k w stands.1 (omega arith) (omega arith) there)
 
 pub is-wider : (w : Watch) → IsWider w w
-is-wider w = record { from = omega arith; to = omega arith }
+is-wider w = record { from = omega arith; to = omega arith; until = omega arith }
 
 wider-at : (entries : List Entry) (watches : List Watch) (k q : ℕ) (old new w : Watch) → slice_get watches k ≡ Some old → IsWider old new
     → watch_at entries watches q ≡ Some w
@@ -150,6 +153,7 @@ wider-then a b c first second =
             record {
               from = let x = v.2.from in let y = u.2.from in omega arith;
               to = let x = v.2.to in let y = u.2.to in omega arith;
+              until = let x = v.2.until in let y = u.2.until in omega arith;
             },
           ));
     }
@@ -176,6 +180,31 @@ pub asleep-wider : (entries : List Entry) (watches wider : List Watch) (fresh lo
     → AreAsleep entries watches fresh low last → AreAsleep entries wider fresh low last
 asleep-wider entries watches wider fresh low last more asleep q l outside =
     looked-wider entries watches wider q more (asleep q l outside)
+
+pub clear-wider : (entries : List Entry) (watches wider : List Watch) → AreWider watches wider → AreClear entries watches
+    → AreClear entries wider
+clear-wider entries watches wider more clear p e there =
+    let w = clear p e there in
+    let v = more.each entries p w.0 w.1 in (
+      v.0,
+      v.1,
+      λ q earlier later after before at here.
+          w.2 q earlier later (let low = v.2.until in omega arith) before at here,
+    )
+
+-- none is in conflict with the entry at a place after the position that the watch there tells
+pub clear-at : (entries : List Entry) (watches : List Watch) (place : ℕ) (w : Watch) → IsInRow entries → place < length entries
+    → place < length watches → w ≡ get_or watches place w → AreClear entries watches
+    → IsClear entries w.until (first_position entries + place)
+clear-at entries watches place w row l within read clear q earlier later after before at here =
+    let mine =
+    watch-there (first_position entries) entries watches (first_position entries + place) place w row l refl
+    (read-at watches place w within read) in
+    let theirs = clear (first_position entries + place) later here in
+    let both = sym mine ∙ theirs.1 in
+    let same : w ≡ theirs.0 = cc both in
+    let until = ap (λ (v : Watch). v.until) same in
+    theirs.2 q earlier later (omega arith) before at here
 
 -- changes
 
@@ -240,6 +269,30 @@ module _ (test : ℕ → Bool) (change : Entry → Entry) (keeps : KeepsPosition
           to = held.to;
         }
 
+  was-locks : (p : ℕ) (e : Entry) → entry_at (with_change test change entries) p ≡ Some e
+      → (y : Entry) × (entry_at entries p ≡ Some y) × (e.locks ≡ y.locks)
+  was-locks p e there =
+      let y = changed-there test change entries p e keeps there in
+      (y.0, y.1, ap (λ (z : Entry). z.locks) y.2 ∙ same-locks (test p) y.0)
+
+  pub clear-changed : (watches : List Watch) → AreClear entries watches → AreClear (with_change test change entries) watches
+  clear-changed watches clear p e there =
+      let y = was-locks p e there in
+      let w = clear p y.0 y.1 in (
+        w.0,
+        watch-changed test change keeps entries watches p ∙ w.1,
+        λ q earlier later after before at here clash.
+            (let x = was-locks q earlier at in
+            let z = was-locks p later here in
+            w.2 q x.0 z.0 after before x.1 z.1
+            (subst (λ l. Conflict l z.0.locks) x.2 (subst (λ l. Conflict earlier.locks l) z.2 clash))),
+      )
+
+  pub touched-changed : (touched : Touched) → AllTouched entries touched → AllTouched (with_change test change entries) touched
+  touched-changed touched marked q e there =
+      let y = was-locks q e there in
+      subst (IsMarked touched q) (sym y.2) (marked q y.0 y.1)
+
   -- a test answers the same before the position as it did, where it does so of each entry there that was changed
   pub below-changed : (says : State → Bool) (answer : Bool) (below : ℕ) → KeepsBelow says answer test change entries below
       → Below says answer entries below → Below says answer (with_change test change entries) below
@@ -293,6 +346,67 @@ module _ (entries : List Entry) (new : Entry) where
         | inr is ↦ absurd (let same = is.0 in omega arith)
       ]
 
+-- the next position is at the place behind the entries
+next-place : (entries : List Entry) (new : Entry) → IsInRow entries → ComesNext entries new.pos
+    → new.pos ≡ first_position (entries ++ new ∷ []) + length entries
+next-place [] new row next = omega arith
+next-place (x ∷ entries) new row next = let is = next-is x.pos new.pos x entries row next in omega arith
+
+before-next : (entries : List Entry) (new : Entry) (p : ℕ) (e : Entry) → IsInRow entries → ComesNext entries new.pos
+    → entry_at entries p ≡ Some e → p < new.pos
+before-next [] new p e row next there = absurd (cc there)
+before-next (x ∷ entries) new p e row next there =
+    let is = next-is x.pos new.pos x entries row next in
+    let high = (from-first x.pos (x ∷ entries) p e row there).1 in
+    omega arith
+
+module _ (entries : List Entry) (new : Entry) (row : IsInRow entries) (next : ComesNext entries new.pos) where
+  pub touched-pushed : (before after : Touched) → KeepsMarks before after → IsMarked after new.pos new.locks
+      → AllTouched entries before → AllTouched (entries ++ new ∷ []) after
+  touched-pushed before after keeps here marked q e there =
+      elim (was-there entries new q e there) [
+        | inl was ↦ keeps q e.locks (marked q e was)
+        | inr is ↦
+            subst (λ (x : Entry). IsMarked after q x.locks) (sym is.1) (subst (λ k. IsMarked after k new.locks) (sym is.0) here)
+      ]
+
+  module _ (watches : List Watch) (v : Watch) (many : length watches ≡ length entries) where
+    watch-new : (p : ℕ) → p ≡ new.pos → watch_at (entries ++ new ∷ []) (watches ++ v ∷ []) p ≡ Some v
+    watch-new p is =
+        let place = next-place entries new row next in
+        watch-there (first_position (entries ++ new ∷ [])) (entries ++ new ∷ []) (watches ++ v ∷ []) p (length entries) v
+        (row-push entries new row next) (let more = length-append entries (new ∷ []) in omega arith) (is ∙ place)
+        (subst (λ k. slice_get (watches ++ v ∷ []) k ≡ Some v) many (get_last watches v))
+
+    -- the new entry is in conflict with none after the greatest of its marks
+    pub clear-pushed : (touched : Touched) → AllTouched entries touched → IsClearPast touched v.until new.locks
+        → AreClear entries watches → AreClear (entries ++ new ∷ []) (watches ++ v ∷ [])
+    clear-pushed touched marked past clear p e there =
+        elim (was-there entries new p e there) [
+          | inl was ↦
+              (let w = clear p e was in (
+                w.0,
+                watch-pushed entries watches new v p w.0 w.1,
+                λ q earlier later after before at here. elim (was-there entries new q earlier at) [
+                  | inl it ↦
+                      w.2 q earlier later after before it
+                      (subst (λ x. entry_at entries p ≡ Some x) (one-entry (entries ++ new ∷ []) p e later there here) was)
+                  | inr is ↦ absurd (let same = is.0 in let l = before-next entries new p e row next was in omega arith)
+                ],
+              ))
+          | inr is ↦ (
+            v,
+            watch-new p is.0,
+            λ q earlier later after before at here. elim (was-there entries new q earlier at) [
+              | inl it ↦
+                  subst (λ (x : Entry). ¬ Conflict earlier.locks x.locks)
+                  (sym is.1 ∙ one-entry (entries ++ new ∷ []) p e later there here)
+                  (past q earlier.locks (marked q earlier it) after)
+              | inr same ↦ absurd (let a = is.0 in let b = same.0 in omega arith)
+            ],
+          )
+        ]
+
 pub below-pushed : (says : State → Bool) (answer : Bool) (entries : List Entry) (new : Entry) (below : ℕ)
     → Below says answer entries below → Below says answer (entries ++ new ∷ []) (min below new.pos)
 below-pushed says answer entries new below before q x l there = go (entry_at entries q) refl (sym (pushed entries new q) ∙ there)
@@ -344,6 +458,16 @@ module _ (first : Entry) (entries : List Entry) (row : IsInRow (first ∷ entrie
   pub below-rest : (says : State → Bool) (answer : Bool) (below : ℕ) → Below says answer (first ∷ entries) below
       → Below says answer entries below
   below-rest says answer below before q x l there = before q x l (there-too q x there)
+
+  pub clear-rest : (watches : List Watch) → AreClear (first ∷ entries) watches → AreClear entries (drop 1 watches)
+  clear-rest watches clear p e there =
+      let w = clear p e (there-too p e there) in (
+        w.0,
+        watch-rest first entries watches p w.0
+            (λ same. (let low = (from-first (suc first.pos) entries p e row.1 there).0 in omega arith)) w.1,
+        λ q earlier later after before at here.
+            w.2 q earlier later after before (there-too q earlier at) (there-too p later here),
+      )
 
 -- a position that is held up is not runnable
 pub held-up : (entries : List Entry) (q p : ℕ) → HoldsUp entries q p → ¬ IsRunnable entries p
@@ -451,6 +575,7 @@ asleep-narrowed entries watches marks true None true looked marked =
             ]
           ]) marked.asleep;
       all_applied = marked.all_applied;
+      clear = marked.clear;
     }
 asleep-narrowed entries watches marks true (Some p) all looked marked =
     record {
@@ -464,6 +589,7 @@ asleep-narrowed entries watches marks true (Some p) all looked marked =
             ]
           ]) marked.asleep;
       all_applied = marked.all_applied;
+      clear = marked.clear;
     }
   where
     inside : (q : ℕ) → (q < p) ⊎ (marks.last < q) → q ≤ marks.last → q < p
@@ -475,7 +601,7 @@ pub asleep-refreshed : (entries : List Entry) (watches : List Watch) (marks : Ma
     → (follows ≡ true → (q : ℕ) → marks.fresh ≤ q → q < reached → IsLooked entries watches q)
     → AreMarks entries watches marks → AreMarks entries watches (record marks { fresh = cond follows reached marks.fresh })
 asleep-refreshed entries watches marks false reached looked marked =
-    record { asleep = marked.asleep; all_applied = marked.all_applied }
+    record { asleep = marked.asleep; all_applied = marked.all_applied; clear = marked.clear }
 asleep-refreshed entries watches marks true reached looked marked =
     record {
       asleep =
@@ -485,6 +611,7 @@ asleep-refreshed entries watches marks true reached looked marked =
             | inr not_before ↦ inr (looked refl q not_before l)
           ]) marked.asleep;
       all_applied = marked.all_applied;
+      clear = marked.clear;
     }
 
 -- one that stands before `fresh` is not runnable, where those of them that had to be looked at were
@@ -502,7 +629,11 @@ none-before-fresh entries watches wider marks q marked more looked l =
 pub marks-wider : (entries : List Entry) (watches wider : List Watch) (marks : Marks) → AreWider watches wider
     → AreMarks entries watches marks → AreMarks entries wider marks
 marks-wider entries watches wider marks more marked =
-    record { asleep = asleep-wider entries watches wider marks.fresh marks.low marks.last more marked.asleep; all_applied = marked.all_applied }
+    record {
+      asleep = asleep-wider entries watches wider marks.fresh marks.low marks.last more marked.asleep;
+      all_applied = marked.all_applied;
+      clear = clear-wider entries watches wider more marked.clear;
+    }
 
 -- one is not runnable where both searches looked at all that had to be looked at
 pub none-either : (entries : List Entry) (watches one two : List Watch) (marks : Marks) (q : ℕ) → AreMarks entries watches marks
@@ -585,15 +716,16 @@ waking-holds entries watches p place watch marks change row at within read q x w
     inr (omega arith, omega arith)
 
 -- all is upheld where entries were changed
-pub upheld-changed : (entries : List Entry) (watches : List Watch) (marks low : Marks) (unknown more : ℕ)
+pub upheld-changed : (entries : List Entry) (watches : List Watch) (marks low : Marks) (touched : Touched) (unknown more : ℕ)
     (test : ℕ → Bool) (change : Entry → Entry) (news : List Entry)
     → KeepsPosition change → KeepsLocks change
     → KeepsWaiting test change entries low.fresh → KeepsHolding test change entries watches low.low low.last
     → low.fresh ≤ marks.fresh → low.low ≤ marks.low → marks.last ≤ low.last
     → KeepsBelow is_applied true test change entries low.whole → low.whole ≤ marks.whole
     → more ≡ unknown_in news → news ≡ with_change test change entries → IsKept news
-    → IsUpheld entries watches marks unknown → IsUpheld news watches low more
-upheld-changed entries watches marks low unknown more test change news keeps locks waiting holding sooner less later whole fewer count is kept upheld =
+    → IsUpheld entries watches marks touched unknown → IsUpheld news watches low touched more
+upheld-changed entries watches marks low touched unknown more test change news keeps locks waiting holding sooner less later whole fewer
+    count is kept upheld =
     record {
       kept = kept;
       many = upheld.many ∙ (sym (same-length test change entries) ∙ ap length (sym is));
@@ -603,32 +735,35 @@ upheld-changed entries watches marks low unknown more test change news keeps loc
                 less later upheld.marked.asleep;
             all_applied = below-changed test change keeps locks entries is_applied true low.whole whole
                 (λ q e l there. upheld.marked.all_applied q e (omega arith) there);
+            clear = clear-changed test change keeps locks entries watches upheld.marked.clear;
           });
+      touches = subst (λ es. AllTouched es touched) (sym is) (touched-changed test change keeps locks entries touched upheld.touches);
       unknowns = count;
     }
 
 -- so where the change tells of no subthread what it touches
-pub upheld-kept : (entries : List Entry) (watches : List Watch) (marks low : Marks) (unknown : ℕ)
+pub upheld-kept : (entries : List Entry) (watches : List Watch) (marks low : Marks) (touched : Touched) (unknown : ℕ)
     (test : ℕ → Bool) (change : Entry → Entry) (news : List Entry)
     → KeepsPosition change → KeepsLocks change → KeepsKnown change
     → KeepsWaiting test change entries low.fresh → KeepsHolding test change entries watches low.low low.last
     → low.fresh ≤ marks.fresh → low.low ≤ marks.low → marks.last ≤ low.last
     → KeepsBelow is_applied true test change entries low.whole → low.whole ≤ marks.whole
     → news ≡ with_change test change entries → IsKept news
-    → IsUpheld entries watches marks unknown → IsUpheld news watches low unknown
-upheld-kept entries watches marks low unknown test change news keeps locks known waiting holding sooner less later whole fewer is kept upheld =
-    upheld-changed entries watches marks low unknown unknown test change news keeps locks waiting holding sooner less later whole fewer
-    (upheld.unknowns ∙ (sym (unknown-same test change entries known) ∙ ap unknown_in (sym is))) is kept upheld
+    → IsUpheld entries watches marks touched unknown → IsUpheld news watches low touched unknown
+upheld-kept entries watches marks low touched unknown test change news keeps locks known waiting holding sooner less later whole
+    fewer is kept upheld =
+    upheld-changed entries watches marks low touched unknown unknown test change news keeps locks waiting holding sooner less later whole
+    fewer (upheld.unknowns ∙ (sym (unknown-same test change entries known) ∙ ap unknown_in (sym is))) is kept upheld
 
 drop-length : (watches : List Watch) (n : ℕ) → length watches ≡ suc n → length (drop 1 watches) ≡ n
 drop-length [] n is = absurd (omega arith)
 drop-length (w ∷ watches) n is = let more : suc (length watches) ≡ suc n = is in omega arith
 
 -- and without the first entry
-pub upheld-rest : (first : Entry) (entries : List Entry) (watches rest : List Watch) (marks : Marks) (unknown more : ℕ)
+pub upheld-rest : (first : Entry) (entries : List Entry) (watches rest : List Watch) (marks : Marks) (touched : Touched) (unknown more : ℕ)
     → rest ≡ drop 1 watches → more + one_in first ≡ unknown → is_applied first.state ≡ true
-    → IsUpheld (first ∷ entries) watches marks unknown → IsUpheld entries rest marks more
-upheld-rest first entries watches rest marks unknown more is less applied upheld =
+    → IsUpheld (first ∷ entries) watches marks touched unknown → IsUpheld entries rest marks touched more
+upheld-rest first entries watches rest marks touched unknown more is less applied upheld =
     let row = upheld.kept.row in
     record {
       kept = kept-rest first entries upheld.kept;
@@ -637,6 +772,8 @@ upheld-rest first entries watches rest marks unknown more is less applied upheld
           (record {
             asleep = asleep-rest first entries row watches marks.fresh marks.low marks.last applied upheld.marked.asleep;
             all_applied = below-rest first entries row is_applied true marks.whole upheld.marked.all_applied;
+            clear = clear-rest first entries row watches upheld.marked.clear;
           });
+      touches = λ q e there. upheld.touches q e (there-too first entries row q e there);
       unknowns = let counted = upheld.unknowns in let one = unknown-first first entries in omega arith;
     }

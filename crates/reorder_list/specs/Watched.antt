@@ -6,9 +6,11 @@ use Rattle.reorder_list.specs.declared.entry.State.{State}
 use Rattle.reorder_list.specs.declared.entry.State.TheVariants.{Waiting}
 use Rattle.reorder_list.specs.declared.marks.Marks.{Marks}
 use Rattle.reorder_list.specs.declared.marks.Watch.{Watch}
+use Rattle.reorder_list.specs.declared.touched.Touched.{Touched}
 use Rattle.reorder_list.specs.Entries.{entry_at, is_applied}
 use Rattle.reorder_list.specs.Places.{IsKept}
 use Rattle.reorder_list.specs.Runnable.{AllLetPass}
+use Rattle.reorder_list.specs.Touching.{IsMarked}
 
 -- the earlier position holds up the later one: its entry is in conflict by locks with that one's and is not applied
 pub record HoldsUp (entries : List Entry) (earlier later : ℕ) : Type 0 where
@@ -50,10 +52,27 @@ abbrev pub AreAsleep : List Entry → List Watch → (fresh low last : ℕ) → 
 AreAsleep entries watches fresh low last =
     (q : ℕ) → q < fresh → (q < low) ⊎ (last < q) → IsLooked entries watches q
 
--- a watch holds each position that another does
+-- no entry after the one position and before the other is in conflict by locks with the other's
+abbrev pub IsClear : List Entry → (until p : ℕ) → Type 0
+IsClear entries until p =
+    (q : ℕ) (earlier later : Entry) → until < q → q < p → entry_at entries q ≡ Some earlier → entry_at entries p ≡ Some later
+    → ¬ Conflict earlier.locks later.locks
+
+-- each entry has a watch, and is in conflict with none after the position that its watch tells
+abbrev pub AreClear : List Entry → List Watch → Type 0
+AreClear entries watches =
+    (p : ℕ) (e : Entry) → entry_at entries p ≡ Some e
+    → (w : Watch) × (watch_at entries watches p ≡ Some w) × IsClear entries w.until p
+
+-- what each entry touches by locks is marked with its position
+abbrev pub AllTouched : List Entry → Touched → Type 0
+AllTouched entries touched = (q : ℕ) (e : Entry) → entry_at entries q ≡ Some e → IsMarked touched q e.locks
+
+-- a watch holds each position that another does, and leaves no more of them to look at
 pub record IsWider (watch wider : Watch) : Type 0 where
   pub from : wider.from ≤ watch.from
   pub to : watch.to ≤ wider.to
+  pub until : watch.until ≤ wider.until
 
 -- as many watches, each of which holds what the one at its place did
 pub record AreWider (watches wider : List Watch) : Type 0 where
@@ -80,10 +99,11 @@ narrowed true (Some p) all marks = record marks { low = p }
 narrowed true None true marks = record marks { low = 4294967295; last = 0 }
 narrowed true None false marks = marks
 
--- what stands by the marks
+-- what stands by the watches and the marks
 pub record AreMarks (entries : List Entry) (watches : List Watch) (marks : Marks) : Type 0 where
   pub asleep : AreAsleep entries watches marks.fresh marks.low marks.last
   pub all_applied : AllApplied entries marks.whole
+  pub clear : AreClear entries watches
 
 -- of how many entries it is not known what the subthread touches
 abbrev pub is_unknown : Entry → Bool
@@ -92,9 +112,10 @@ is_unknown e = not (is_some e.foot)
 abbrev pub unknown_in : List Entry → ℕ
 unknown_in entries = count_by is_unknown entries
 
--- what is kept of the entries, of the watches, of the marks, and of how many are unknown
-pub record IsUpheld (entries : List Entry) (watches : List Watch) (marks : Marks) (unknown : ℕ) : Type 0 where
+-- what is kept of the entries, of the watches, of the marks, of what entries touch, and of how many are unknown
+pub record IsUpheld (entries : List Entry) (watches : List Watch) (marks : Marks) (touched : Touched) (unknown : ℕ) : Type 0 where
   pub kept : IsKept entries
   pub many : length watches ≡ length entries
   pub marked : AreMarks entries watches marks
+  pub touches : AllTouched entries touched
   pub unknowns : unknown ≡ unknown_in entries

@@ -16,12 +16,14 @@ pub struct Marks {
 }
 
 /// What is kept beside an entry: an earlier position that held it up when it was last looked at, and the first and the
-/// last of the positions that it was found to hold up itself.
+/// last of the positions that it was found to hold up itself. No entry after `until` and before it is in conflict with
+/// it by locks.
 #[derive(Clone, Copy)]
 pub struct Watch {
     pub by: Option<Pos>,
     pub from: Pos,
     pub to: Pos,
+    pub until: Pos,
 }
 
 // The earlier of two positions.
@@ -38,14 +40,16 @@ fn later_of(a: Pos, b: Pos) -> Pos
     Pos(a.0.max(b.0))
 }
 
-/// The watch of an entry at this position of which nothing was looked at.
-pub fn new_watch(p: Pos) -> Watch
-    ensures { result ≡ record { by = None; from = p; to = p } }
+/// The watch of an entry at this position of which nothing was looked at. No other position after `until` and before
+/// it is in conflict with it by locks.
+pub fn new_watch(p: Pos, until: Pos) -> Watch
+    ensures { result ≡ record { by = None; from = p; to = p; until = until } }
 {
     Watch {
         by: None,
         from: p,
         to: p,
+        until,
     }
 }
 

@@ -10,6 +10,7 @@ ghost use Rattle.reorder_list.specs.declared.entry.State.TheVariants.{Out, Appli
 
 use crate::marks::{Marks, Watch, new_watch};
 use crate::search::{first_runnable, first_unapplied, is_runnable, place_of};
+use crate::touched::Touched;
 use crate::{Entry, State};
 use gp_base::{Footprint, Lines, Pos, Seq};
 use record_store::History;
@@ -25,6 +26,8 @@ pub struct Rol {
     // for each entry what held it up when it was last looked at, and what it was found to hold up itself
     watches: VecDeque<Watch>,
     marks: Marks,
+    // of each location the last position that reads and writes it by locks
+    touched: Touched,
     // of how many entries it is not known what the subthread touches
     unknown: usize,
 }
@@ -39,7 +42,7 @@ impl Model for Rol {
 
     ghost view = { λ r. record { entries = r.entries.items; spare = min (deque_capacity r.entries - deque_len r.entries) (deque_capacity r.watches - deque_len r.watches) } };
 
-    ghost invariant = { λ r. IsUpheld r.entries.items r.watches.items r.marks r.unknown };
+    ghost invariant = { λ r. IsUpheld r.entries.items r.watches.items r.marks r.touched r.unknown };
 }
 
 // The next attempt of an entry begins at this front and waits; the history of the last one is handed out.
@@ -107,6 +110,7 @@ impl Rol {
                 last: Pos(0),
                 whole: Pos(0),
             },
+            touched: Touched::new(),
             unknown: 0,
         }
     }
@@ -160,7 +164,9 @@ impl Rol {
     {
         self.marks = self.marks.lowered(entry.pos);
         self.unknown += usize::from(entry.foot.is_none());
-        self.watches.push_back_reserved(new_watch(entry.pos));
+        let until = Pos(self.touched.last(&entry.locks));
+        self.touched.mark(&entry.locks, entry.pos.0);
+        self.watches.push_back_reserved(new_watch(entry.pos, until));
         self.entries.push_back_reserved(entry);
     }
 
@@ -184,7 +190,12 @@ impl Rol {
         ensures { IsTrue result ↔ IsRunnable self.now.entries p }
     {
         match place_of(&self.entries, p) {
-            Some(place) => is_runnable(&self.entries, place, self.marks.whole),
+            Some(place) => is_runnable(
+                &self.entries,
+                place,
+                self.watches[place].until,
+                self.marks.whole,
+            ),
             None => false,
         }
     }

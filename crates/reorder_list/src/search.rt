@@ -6,7 +6,7 @@ ghost use Rattle.dependence.specs.Conflict.{Conflict};
 ghost use Rattle.reorder_list.specs.Entries.{IsInRow, entry_at, first_position, is_applied};
 ghost use Rattle.reorder_list.specs.Places.{IsPlaceOf};
 ghost use Rattle.reorder_list.specs.Runnable.{LetsPass, IsRunnable, IsFirstRunnable, NoneRunnable};
-ghost use Rattle.reorder_list.specs.Watched.{HoldsUp, IsReady, IsHeldUp, IsLooked, AreLooked, AreWider, AllApplied, AreMarks};
+ghost use Rattle.reorder_list.specs.Watched.{HoldsUp, IsReady, IsHeldUp, IsLooked, AreLooked, AreWider, AllApplied, AreMarks, IsClear, AreClear};
 
 use crate::Entry;
 use crate::marks::{Marks, Watch, cover, hold, narrow, refresh};
@@ -69,16 +69,19 @@ fn blocks(earlier: &Entry, later: &Entry) -> bool
     !earlier.state.is_applied() && conflict(&earlier.locks, &later.locks)
 }
 
-// The last position before the one at a place that holds it up, where each entry before another position is applied.
-fn blocker(entries: &VecDeque<Entry>, place: usize, whole: Pos) -> Option<Pos>
+// The last position before the one at a place that holds it up, where each entry before `whole` is applied, and none
+// after `until` and before the place is in conflict with it.
+fn blocker(entries: &VecDeque<Entry>, place: usize, until: Pos, whole: Pos) -> Option<Pos>
     requires in_row { IsInRow entries.now.items }
     requires in_range { place < length entries.now.items }
+    requires clear { IsClear entries.now.items until (first_position entries.now.items + place) }
     requires all_applied { AllApplied entries.now.items whole }
     ensures none { IfNone result (IsReady entries.now.items (first_position entries.now.items + place)) }
     ensures some { IfSome result (λ q. HoldsUp entries.now.items q (first_position entries.now.items + place)) }
 {
     let entry = &entries[place];
-    for earlier in (place_from(entries, whole)..place).rev() {
+    let end = place_behind(entries, until).min(place);
+    for earlier in (place_from(entries, whole)..end).rev() {
         let before = &entries[earlier];
         if blocks(before, entry) {
             return Some(before.pos);
@@ -88,14 +91,15 @@ fn blocker(entries: &VecDeque<Entry>, place: usize, whole: Pos) -> Option<Pos>
 }
 
 /// Whether the entry at a place waits and each earlier one in conflict with it by locks is applied. Looks at no entry
-/// before the position before which each is applied.
-pub fn is_runnable(entries: &VecDeque<Entry>, place: usize, whole: Pos) -> bool
+/// before `whole`, before which each is applied, nor at one after `until`, where none is in conflict with it.
+pub fn is_runnable(entries: &VecDeque<Entry>, place: usize, until: Pos, whole: Pos) -> bool
     requires in_row { IsInRow entries.now.items }
     requires in_range { place < length entries.now.items }
+    requires clear { IsClear entries.now.items until (first_position entries.now.items + place) }
     requires all_applied { AllApplied entries.now.items whole }
     ensures { IsTrue result ↔ IsRunnable entries.now.items (first_position entries.now.items + place) }
 {
-    entries[place].state.is_waiting() && blocker(entries, place, whole).is_none()
+    entries[place].state.is_waiting() && blocker(entries, place, until, whole).is_none()
 }
 
 // The position, if it still holds up the entry at a place.
@@ -113,16 +117,17 @@ fn still_holding(entries: &VecDeque<Entry>, by: Option<Pos>, place: usize) -> Op
 }
 
 // A position that holds up the entry at a place. Looks for another only where the one that last did so does no longer.
-fn holder(entries: &VecDeque<Entry>, by: Option<Pos>, place: usize, whole: Pos) -> Option<Pos>
+fn holder(entries: &VecDeque<Entry>, watch: Watch, place: usize, whole: Pos) -> Option<Pos>
     requires in_row { IsInRow entries.now.items }
     requires in_range { place < length entries.now.items }
+    requires clear { IsClear entries.now.items watch.until (first_position entries.now.items + place) }
     requires all_applied { AllApplied entries.now.items whole }
     ensures none { IfNone result (IsReady entries.now.items (first_position entries.now.items + place)) }
     ensures some { IfSome result (λ q. HoldsUp entries.now.items q (first_position entries.now.items + place)) }
 {
-    match still_holding(entries, by, place) {
+    match still_holding(entries, watch.by, place) {
         Some(earlier) => Some(earlier),
-        None => blocker(entries, place, whole),
+        None => blocker(entries, place, watch.until, whole),
     }
 }
 
@@ -155,6 +160,7 @@ fn is_ready(
     requires in_range { place < length entries.now.items }
     requires all_applied { AllApplied entries.now.items whole }
     requires many { length watches.old.items ≡ length entries.now.items }
+    requires clear { AreClear entries.now.items watches.old.items }
     ensures runnable { IsTrue result ↔ IsRunnable entries.now.items (first_position entries.now.items + place) }
     ensures held { result ≡ false → IsLooked entries.now.items watches.new.items (first_position entries.now.items + place) }
     ensures wider { AreWider watches.old.items watches.new.items }
@@ -164,7 +170,7 @@ fn is_ready(
     if !entries[place].state.is_waiting() {
         return false;
     }
-    match holder(entries, watches[place].by, place, whole) {
+    match holder(entries, watches[place], place, whole) {
         Some(earlier) => {
             note_holder(entries, watches, place, earlier);
             false
@@ -202,6 +208,7 @@ fn look(
     requires in_range { end ≤ length entries.now.items }
     requires all_applied { AllApplied entries.now.items whole }
     requires many { length watches.old.items ≡ length entries.now.items }
+    requires clear { AreClear entries.now.items watches.old.items }
     ensures found { IfSome result (λ p. (first_position entries.now.items + start ≤ p) × (p < first_position entries.now.items + end) × IsRunnable entries.now.items p) }
     ensures looked { AreLooked entries.now.items watches.new.items (first_position entries.now.items + start) (unwrap_or result (first_position entries.now.items + end)) }
     ensures wider { AreWider watches.old.items watches.new.items }

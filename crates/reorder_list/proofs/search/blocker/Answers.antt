@@ -9,7 +9,13 @@ use Rattle.reorder_list.proofs.Watching.{pass-applied}
 use Rattle.reorder_list.proofs.search.blocker.Goals as goal
 
 pub loop-earlier-init : goal.loop-earlier-init
-loop-earlier-init c q x low high there = absurd (omega arith)
+loop-earlier-init c q x low high there clash =
+    let entries = c.args.entries.now.items in
+    let here = read-there entries c.args.place c.index-entry.result.now c.requires.in_row c.requires.in_range c.index-entry.ensures in
+    let end = c.min-end.ensures in
+    let l = c.requires.in_range in
+    let after = c.place_behind.ensures.later (omega arith) in
+    absurd (c.requires.clear q x c.index-entry.result.now (omega arith) high there here clash)
 
 pub returns-then-blocks-clause-some : goal.returns-then-blocks-clause-some
 returns-then-blocks-clause-some c =

@@ -3,7 +3,7 @@ use Rattle.std.proofs.lemmas.Bool.{false≢true, both_ways}
 use Rattle.reorder_list.specs.declared.entry.Entry.{Entry}
 use Rattle.reorder_list.specs.Entries.{first_position, is_waiting}
 use Rattle.reorder_list.proofs.Readiness.{not-waiting, one-entry, read-there}
-use Rattle.reorder_list.proofs.Watching.{found-decides}
+use Rattle.reorder_list.proofs.Watching.{found-decides, clear-at}
 use Rattle.reorder_list.proofs.search.is_ready.Goals as goal
 
 pub returns-then-not-is_waiting-clause-runnable : goal.returns-then-not-is_waiting-clause-runnable
@@ -29,6 +29,13 @@ index-requires-2 c =
     let ok = c.args.watches.now.ok in
     let l = c.requires.in_range in
     omega arith
+
+pub holder-requires-clause-clear : goal.holder-requires-clause-clear
+holder-requires-clause-clear c =
+    let same = c.requires.many in
+    let l = c.requires.in_range in
+    clear-at c.args.entries.now.items c.args.watches.now.items c.args.place c.index-2.result.now c.requires.in_row l (omega arith)
+    c.index-2.ensures c.requires.clear
 
 pub returns-in-None-clause-runnable : goal.returns-in-None-clause-runnable
 returns-in-None-clause-runnable c =

@@ -4,7 +4,7 @@ use Rattle.reorder_list.specs.Entries.{first_position}
 use Rattle.reorder_list.specs.Runnable.{IsRunnable}
 use Rattle.reorder_list.specs.Watched.{IsLooked}
 use Rattle.reorder_list.proofs.Readiness.{read-position}
-use Rattle.reorder_list.proofs.Watching.{looked-wider, wider-same, wider-then}
+use Rattle.reorder_list.proofs.Watching.{looked-wider, wider-same, wider-then, clear-wider}
 use Rattle.reorder_list.proofs.search.look.Goals as goal
 
 pub loop-place-init : goal.loop-place-init
@@ -15,6 +15,10 @@ loop-place-init c =
       len = refl;
       capacity = refl;
     }
+
+pub is_ready-requires-clause-clear : goal.is_ready-requires-clause-clear
+is_ready-requires-clause-clear c =
+    clear-wider c.args.entries.now.items c.args.watches.now.items c.loop-place.watches.items c.loop-place.invariant.wider c.requires.clear
 
 pub loop-place-preserved : goal.loop-place-preserved
 loop-place-preserved c =

@@ -44,8 +44,11 @@ returns-clause-wider c =
     let to = ap (λ (w : Watch). w.to) c.hold.ensures in
     let from2 = ap (λ (w : Watch). w.from) c.cover.ensures in
     let to2 = ap (λ (w : Watch). w.to) c.cover.ensures in
-    let one : IsWider c.index_mut.result.now held = record { from = omega arith; to = omega arith } in
-    let two : IsWider c.index_mut-2.result.now c.cover.new.watch = record { from = omega arith; to = omega arith } in
+    let until = ap (λ (w : Watch). w.until) c.hold.ensures in
+    let until2 = ap (λ (w : Watch). w.until) c.cover.ensures in
+    let one : IsWider c.index_mut.result.now held = record { from = omega arith; to = omega arith; until = omega arith } in
+    let two : IsWider c.index_mut-2.result.now c.cover.new.watch =
+    record { from = omega arith; to = omega arith; until = omega arith } in
     wider-then watches first (slice_set first c.in-Some.at c.cover.new.watch)
     (wider-set watches c.args.place c.index_mut.result.now held
     (read-at watches c.args.place c.index_mut.result.now (omega arith) c.index_mut.ensures.value) one)

@@ -18,7 +18,7 @@ invariant_of-self c =
     let set = known-set place entries old new c.args.foot there c.know_entry.ensures.entry in
     let one : one_in old ≡ 1 = ap one_where (sym c.know_entry.ensures.known ∙ c.if-not-know_entry.true) in
     let counted = c.self.invariant.unknowns in
-    upheld-changed entries c.self.inside.watches.items c.self.inside.marks c.self.inside.marks c.self.inside.unknown
+    upheld-changed entries c.self.inside.watches.items c.self.inside.marks c.self.inside.marks c.self.inside.touched c.self.inside.unknown
     (c.self.inside.unknown - 1)
     (λ q. nat_eq q c.args.p) (known_entry c.args.foot) _ (λ e. refl) (λ e. refl) (λ p e is there waits l. waits) (λ q x w is here there un. inl un) (omega arith) (omega arith) (omega arith)
     (λ q l is e here was. was) (omega arith) (omega arith)
@@ -39,7 +39,8 @@ invariant_of-self-else-not-know_entry c =
     let set = known-set place entries old new c.args.foot there c.know_entry.ensures.entry in
     let none : one_in old ≡ 0 = ap one_where (sym c.know_entry.ensures.known ∙ c.if-not-know_entry.false) in
     let counted = c.self.invariant.unknowns in
-    upheld-changed entries c.self.inside.watches.items c.self.inside.marks c.self.inside.marks c.self.inside.unknown c.self.inside.unknown
+    upheld-changed entries c.self.inside.watches.items c.self.inside.marks c.self.inside.marks
+    c.self.inside.touched c.self.inside.unknown c.self.inside.unknown
     (λ q. nat_eq q c.args.p) (known_entry c.args.foot) _ (λ e. refl) (λ e. refl) (λ p e is there waits l. waits) (λ q x w is here there un. inl un) (omega arith) (omega arith) (omega arith)
     (λ q l is e here was. was) (omega arith) (omega arith)
     (changed-entries entries kept c.args.p place c.in-Some.ensures old read (known_entry c.args.foot) new c.know_entry.ensures.entry)

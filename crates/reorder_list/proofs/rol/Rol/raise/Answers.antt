@@ -25,7 +25,8 @@ invariant_of-self c =
     let low = ap (λ (m : Marks). m.low) c.lowered-self-inside.ensures in
     let last = ap (λ (m : Marks). m.last) c.lowered-self-inside.ensures in
     let whole = ap (λ (m : Marks). m.whole) c.lowered-self-inside.ensures in
-    upheld-kept entries c.self.inside.watches.items c.self.inside.marks c.lowered-self-inside.result c.self.inside.unknown
+    upheld-kept entries c.self.inside.watches.items c.self.inside.marks c.lowered-self-inside.result
+    c.self.inside.touched c.self.inside.unknown
     (λ q. nat_eq q c.args.p) (raised_entry c.args.front) _ (λ e. refl) (λ e. refl) (λ e. refl)
     (λ q e is there waits l. absurd (let same = eqb-true q c.args.p is in omega arith))
     (λ q x w is here there un. inl refl) (omega arith) (omega arith) (omega arith)

@@ -18,7 +18,7 @@ invariant_of-self c =
     let low = ap (λ (m : Marks). m.low) c.waking-self-inside.ensures in
     let last = ap (λ (m : Marks). m.last) c.waking-self-inside.ensures in
     let whole = ap (λ (m : Marks). m.whole) c.waking-self-inside.ensures in
-    upheld-kept entries watches marks _ c.self.inside.unknown
+    upheld-kept entries watches marks _ c.self.inside.touched c.self.inside.unknown
     (λ q. nat_eq q c.args.p) change _ (λ e. refl) (λ e. refl) (λ e. refl)
     (λ p e is there waits l. absurd (cc waits))
     (rw c.waking-self-inside.ensures (waking-holds entries watches c.args.p c.in-Some.place watch marks change c.self.invariant.kept.row c.in-Some.ensures

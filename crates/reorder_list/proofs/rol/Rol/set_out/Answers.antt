@@ -6,7 +6,8 @@ use Rattle.reorder_list.proofs.rol.Rol.set_out.Goals as goal
 
 pub invariant_of-self : goal.invariant_of-self
 invariant_of-self c =
-    upheld-kept c.self.inside.entries.items c.self.inside.watches.items c.self.inside.marks c.self.inside.marks c.self.inside.unknown
+    upheld-kept c.self.inside.entries.items c.self.inside.watches.items c.self.inside.marks c.self.inside.marks
+    c.self.inside.touched c.self.inside.unknown
     (λ q. nat_eq q c.args.p) out_entry _ (λ e. refl) (λ e. refl) (λ e. refl)
     (λ p e is there waits l. absurd (cc waits)) (λ q x w is here there un. inl refl) (omega arith) (omega arith) (omega arith)
     (waiting-kept c.self.inside.entries.items c.args.p c.self.inside.marks.whole c.requires.entry out_entry
