@@ -11,6 +11,7 @@ pub mod Naming
 pub mod Nearing
 pub mod Openings
 pub mod Performing
+pub mod Ranges
 pub mod Running
 pub mod Settling
 pub mod Steps

@@ -100,7 +100,7 @@ one-register code inputs limits w registers (suc u) here all = go (nat_eq 0 (suc
 -- the run before its first subthread
 pub opening-holds : (code : Code) (inputs : Inputs) (limits : Limits) (run : Run) (k : ℕ) (names : List Name)
     (registers : List ℤ) (w : Walk)
-    → run.program.now ≡ code → run.slots.now ≡ map slots_of code.tasks → run.turns ≡ limits.turns
+    → run.program.now.program ≡ code → run.slots.now ≡ map slots_of code.tasks → run.turns ≡ limits.turns
     → k ≡ unwrap_or (position {X = CodeTask} (λ task. is_name main task.name) code.tasks) 0
     → slice_get run.slots.now k ≡ Some names → registers ≡ replicate (length names) (pos 0) → IsNew code k 0 [] registers w
     → run.threads.items ≡ w ∷ []

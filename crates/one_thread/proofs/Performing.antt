@@ -373,7 +373,7 @@ module _ (code : Code) (inputs : Inputs) (limits : Limits) (old : Run) (p : Plai
   now-sound =
       let sound = holds.sound.each t performed.was performed.at in
       record {
-        program = ap (λ b. b.now) performed.ran.program ∙ sound.program;
+        program = ap (λ b. b.now.program) performed.ran.program ∙ sound.program;
         registers =
             ap (λ b. b.now) performed.ran.registers ∙ sound.registers
             ∙ ap (λ b. Rattle.task_ast.specs.meaning.Names.registers_of (Rattle.task_ast.specs.View.plain_task b.now))
@@ -398,7 +398,7 @@ module _ (code : Code) (inputs : Inputs) (limits : Limits) (old : Run) (p : Plai
   pub holds-after : child ≡ child_of begins.sync (length old.threads.items) → Holds code inputs limits new after_it
   holds-after child_is =
       record {
-        program = ap (λ b. b.now) performed.program ∙ holds.program;
+        program = ap (λ b. b.now.program) performed.program ∙ holds.program;
         slots = ap (λ b. b.now) performed.slots ∙ holds.slots;
         turns = performed.turns ∙ holds.turns;
         feeds = performed.ran.feeds_are ∙ holds.feeds;

@@ -266,8 +266,8 @@ module _ (code : Code) (inputs : Inputs) (limits : Limits) where
 
   -- what comes next, where the code's program is this
   pub follows-here : (old new : Run) (m : Found) (plain : Plain)
-      → ((inputs : Inputs) (limits : Limits) (plain : Plain) → Holds old.program.now inputs limits old plain
-      → Follows old.program.now inputs limits old plain m new) → Holds code inputs limits old plain
+      → ((inputs : Inputs) (limits : Limits) (plain : Plain) → Holds old.program.now.program inputs limits old plain
+      → Follows old.program.now.program inputs limits old plain m new) → Holds code inputs limits old plain
       → Follows code inputs limits old plain m new
   follows-here old new m plain each holds =
       subst (λ c. Holds c inputs limits old plain → Follows c inputs limits old plain m new) holds.program (each inputs limits plain) holds

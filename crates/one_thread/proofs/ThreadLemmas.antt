@@ -26,7 +26,7 @@ slots-is code slots k text names same at there =
 -- a thread at the start of a task
 pub new-is : (code : Code) (slots : List (List Name)) (k me : ℕ) (arguments registers : List ℤ) (w : Walk) (text : CodeTask)
     (names : List Name) → slots ≡ map slots_of code.tasks → slice_get code.tasks k ≡ Some text → slice_get slots k ≡ Some names
-    → w.program.now ≡ code → w.task.now ≡ text → w.registers.now ≡ names → left_of w.left ≡ plain_stmts text.body
+    → w.program.now.program ≡ code → w.task.now ≡ text → w.registers.now ≡ names → left_of w.left ≡ plain_stmts text.body
     → w.env.names ≡ given (controls text.params) arguments ++ given (controls (declared_in text.vars)) []
     → w.env.regs ≡ [] → w.env.me ≡ me → w.data.registers ≡ registers → IsNew code k me arguments registers w
 new-is code slots k me arguments registers w text names same at there program task slot left names_are clean me_is data_are =

@@ -136,8 +136,8 @@ keeps_on first second =
 
 pub same_setting : (old new : Walk) → Keeps old new → setting_of new ≡ setting_of old
 same_setting old new keeps =
-    ap (λ program. record { program = program; feeds = new.env.feeds }) (ap (λ b. plain_program b.now) keeps.program)
-    ∙ ap (λ feeds. record { program = plain_program old.program.now; feeds = feeds }) keeps.feeds
+    ap (λ program. record { program = program; feeds = new.env.feeds }) (ap (λ b. plain_program b.now.program) keeps.program)
+    ∙ ap (λ feeds. record { program = plain_program old.program.now.program; feeds = feeds }) keeps.feeds
 
 on_case : (s : Setting) (n : ℕ) (old new : Walk) (st : Step Point) → Stepped st went.On old new
     → GoesOn (follow (point_of old) st (tree_body s n) (after_turn (step s) size n)) old.data (tree_body s n (point_of new)) new.data
@@ -348,16 +348,16 @@ not_on (Stop next) walk is = is
 
 -- what a run asks is kept
 pub record Asks (walk : Walk) : Type 0 where
-  pub locks : cells_in (locks_of walk.program.now.heads) ≤ 65536
-  pub records : cells_in (records_of walk.program.now.heads) ≤ 65536
+  pub locks : cells_in (locks_of walk.program.now.program.heads) ≤ 65536
+  pub records : cells_in (records_of walk.program.now.program.heads) ≤ 65536
   pub registers : walk.registers.now ≡ registers_of (plain_task walk.task.now)
   pub clean : walk.env.regs ≡ []
 
 pub asks-on : (old new : Walk) → Asks old → Keeps old new → Asks new
 asks-on old new asks keeps =
     record {
-      locks = subst (λ b. cells_in (locks_of b.now.heads) ≤ 65536) (sym keeps.program) asks.locks;
-      records = subst (λ b. cells_in (records_of b.now.heads) ≤ 65536) (sym keeps.program) asks.records;
+      locks = subst (λ b. cells_in (locks_of b.now.program.heads) ≤ 65536) (sym keeps.program) asks.locks;
+      records = subst (λ b. cells_in (records_of b.now.program.heads) ≤ 65536) (sym keeps.program) asks.records;
       registers = ap (λ b. b.now) keeps.registers ∙ asks.registers ∙ ap (λ b. registers_of (plain_task b.now)) (sym keeps.task);
       clean = keeps.clean;
     }

@@ -1,8 +1,10 @@
 // The cells of lock arrays and of records, numbered in declared order, and the barriers.
-ghost use Rattle.std.specs.Prelude.{◌≡◌, ◌<◌, ◌≤◌, map, option_map, position, IfOk, IfSome};
+ghost use Rattle.std.specs.Prelude.{◌≡◌, ◌+◌, ◌≤◌, map, option_map, position, IfOk};
 ghost use Rattle.task_ast.specs.meaning.Names.{is_name, locks_of, records_of, barriers_of, cells_in, cell_number};
+ghost use Rattle.lock_checker.specs.Accepted.{program_of};
 
 use gp_base::Name;
+use lock_checker::{CellRange, Checked};
 use std::alloc::{AllocError, Global};
 use task_ast::{Head, natural};
 
@@ -13,13 +15,13 @@ pub fn same_name(x: &Name, y: &Name) -> bool
     x.as_slice() == y.as_slice()
 }
 
-// The place of an index, where it is below the size.
-fn place(size: u64, index: i64) -> Option<u64>
-    ensures value { result ≡ Rattle.task_ast.specs.meaning.Names.place size index }
-    ensures below { IfSome result (λ n. n < size) }
+// The number of the cell at an index, or `None` outside the array.
+fn cell_at(cells: CellRange, index: i64) -> Option<u32>
+    requires { cells.first + cells.size ≤ 65536 }
+    ensures { result ≡ option_map (λ n. cells.first + n) (Rattle.task_ast.specs.meaning.Names.place cells.size index) }
 {
-    if index >= 0 && (index as u64) < size {
-        Some(index as u64)
+    if index >= 0 && index < i64::from(cells.size) {
+        Some(cells.first + index as u32)
     } else {
         None
     }
@@ -54,45 +56,19 @@ pub fn record_count(heads: &[Head]) -> usize
 }
 
 /// The number of a lock cell, or `None` outside its array.
-#[tactic(auto, using(lock_checker::proofs::BaseLemmas::base_steps))]
-pub fn lock_number(heads: &[Head], array: &Name, index: i64) -> Option<u32>
-    requires { cells_in (locks_of heads.now) ≤ 65536 }
-    ensures { result ≡ cell_number (locks_of heads.now) array.now index }
+pub fn lock_number(program: &Checked, array: &Name, index: i64) -> Option<u32>
+    requires { cells_in (locks_of (program_of program.now).heads) ≤ 65536 }
+    ensures { result ≡ cell_number (locks_of (program_of program.now).heads) array.now index }
 {
-    let mut base: u64 = 0;
-    for head in heads {
-        if let Head::LockHead { name, size, .. } = head {
-            if same_name(array, name) {
-                return match place(natural(*size), index) {
-                    Some(n) => Some((base + n) as u32),
-                    None => None,
-                };
-            }
-            base += natural(*size);
-        }
-    }
-    None
+    cell_at(program.lock_array(array), index)
 }
 
 /// The number of a record cell, or `None` outside its record.
-#[tactic(auto, using(lock_checker::proofs::BaseLemmas::base_steps))]
-pub fn record_number(heads: &[Head], r: &Name, index: i64) -> Option<u32>
-    requires { cells_in (records_of heads.now) ≤ 65536 }
-    ensures { result ≡ cell_number (records_of heads.now) r.now index }
+pub fn record_number(program: &Checked, r: &Name, index: i64) -> Option<u32>
+    requires { cells_in (records_of (program_of program.now).heads) ≤ 65536 }
+    ensures { result ≡ cell_number (records_of (program_of program.now).heads) r.now index }
 {
-    let mut base: u64 = 0;
-    for head in heads {
-        if let Head::RecHead { name, size, .. } = head {
-            if same_name(r, name) {
-                return match place(natural(*size), index) {
-                    Some(n) => Some((base + n) as u32),
-                    None => None,
-                };
-            }
-            base += natural(*size);
-        }
-    }
-    None
+    cell_at(program.record_array(r), index)
 }
 
 /// The stated numbers of the barriers.

@@ -8,14 +8,16 @@ ghost use Rattle.task_ast.specs.meaning.Control.{action, arm, all_of};
 ghost use Rattle.task_ast.specs.View.{plain_expr, plain_exprs, plain_links, plain_what, plain_stmts, plain_block};
 ghost use Rattle.task_ast.specs.meaning.Tree.{Name as PlainName};
 ghost use Rattle.one_thread.specs.inner.Working.{setting_in, Works, ArmWorks, Notes, ArmNotes};
+ghost use Rattle.lock_checker.specs.Accepted.{program_of};
 
 use crate::cells::{record_number, same_name};
 use crate::names::Names;
 use crate::reckoning::Reckon;
 use crate::variables::{number_at, register_place, set_number};
 use gp_base::{Lines, Name, Nums, Seq};
+use lock_checker::Checked;
 use std::alloc::{AllocError, Global};
-use task_ast::{Atom, Env, Expr, Op, Program, Stmt, What, apply, eval_d, negate};
+use task_ast::{Atom, Env, Expr, Op, Stmt, What, apply, eval_d, negate};
 
 /// What a subthread works on: the registers of its thread and of a child that it
 /// forked, the cells of all records, the lines that it printed, and the record cells that it named.
@@ -131,18 +133,16 @@ fn have_values(es: &[Expr], env: &Env) -> bool
 /// Whether a data statement names cells that exist.
 #[cycle(fitting)]
 #[tactic(auto, using(task_ast::proofs::Views::view), unfolding(task_ast::specs::View::plain_what, task_ast::specs::View::plain_stmt))]
-pub fn fits(what: &What, program: &Program, env: &Env) -> bool
-    requires { cells_in (records_of program.now.heads) ≤ 65536 }
-    ensures { (registers : List PlainName) → result ≡ is_some (action (setting_in program.now env.now) registers (plain_what what.now) env.now) }
+pub fn fits(what: &What, program: &Checked, env: &Env) -> bool
+    requires { cells_in (records_of (program_of program.now).heads) ≤ 65536 }
+    ensures { (registers : List PlainName) → result ≡ is_some (action (setting_in (program_of program.now) env.now) registers (plain_what what.now) env.now) }
 {
     match what {
         What::SetReg(_, e) => has_value(e, env),
-        What::Read(r, i, _) => {
-            record_number(program.heads.as_slice(), r, index_of(i, env)).is_some()
-        }
+        What::Read(r, i, _) => { record_number(program, r, index_of(i, env)).is_some() }
         What::Write(r, i, e) => {
             if has_value(e, env) {
-                record_number(program.heads.as_slice(), r, index_of(i, env)).is_some()
+                record_number(program, r, index_of(i, env)).is_some()
             } else {
                 false
             }
@@ -165,9 +165,9 @@ pub fn fits(what: &What, program: &Program, env: &Env) -> bool
 
 #[cycle(fitting)]
 #[tactic(auto, using(task_ast::proofs::Views::view), unfolding(task_ast::specs::View::plain_what, task_ast::specs::View::plain_stmt))]
-fn all_fit(block: &[Stmt], program: &Program, env: &Env) -> bool
-    requires { cells_in (records_of program.now.heads) ≤ 65536 }
-    ensures { (registers : List PlainName) → result ≡ is_some (arm (setting_in program.now env.now) registers (plain_block block.now) env.now) }
+fn all_fit(block: &[Stmt], program: &Checked, env: &Env) -> bool
+    requires { cells_in (records_of (program_of program.now).heads) ≤ 65536 }
+    ensures { (registers : List PlainName) → result ≡ is_some (arm (setting_in (program_of program.now) env.now) registers (plain_block block.now) env.now) }
 {
     for stmt in block {
         if !fits(&stmt.what, program, env) {
@@ -215,19 +215,19 @@ pub fn is_zero(v: i64) -> bool
 /// Records the record cells that a data statement names, of a choice those of both arms.
 #[cycle(noting)]
 #[tactic(auto, using(task_ast::proofs::Views::view), unfolding(task_ast::specs::View::plain_what, task_ast::specs::View::plain_stmt))]
-pub fn note(what: &What, program: &Program, env: &Env, named: &mut Names) -> Result<(), AllocError>
-    requires { cells_in (records_of program.now.heads) ≤ 65536 }
-    ensures { OnOk result ((registers : List PlainName) → Notes (action (setting_in program.now env.now) registers (plain_what what.now) env.now) named.old named.new) }
+pub fn note(what: &What, program: &Checked, env: &Env, named: &mut Names) -> Result<(), AllocError>
+    requires { cells_in (records_of (program_of program.now).heads) ≤ 65536 }
+    ensures { OnOk result ((registers : List PlainName) → Notes (action (setting_in (program_of program.now) env.now) registers (plain_what what.now) env.now) named.old named.new) }
 {
     match what {
         What::Read(r, i, _) => {
-            match record_number(program.heads.as_slice(), r, index_of(i, env)) {
+            match record_number(program, r, index_of(i, env)) {
                 Some(c) => named.read(c),
                 None => Ok(()),
             }
         }
         What::Write(r, i, _) => {
-            match record_number(program.heads.as_slice(), r, index_of(i, env)) {
+            match record_number(program, r, index_of(i, env)) {
                 Some(c) => named.write(c),
                 None => Ok(()),
             }
@@ -245,12 +245,12 @@ pub fn note(what: &What, program: &Program, env: &Env, named: &mut Names) -> Res
 #[tactic(auto, using(task_ast::proofs::Views::view), unfolding(task_ast::specs::View::plain_what, task_ast::specs::View::plain_stmt))]
 fn note_all(
     block: &[Stmt],
-    program: &Program,
+    program: &Checked,
     env: &Env,
     named: &mut Names,
 ) -> Result<(), AllocError>
-    requires { cells_in (records_of program.now.heads) ≤ 65536 }
-    ensures { OnOk result ((registers : List PlainName) → ArmNotes (arm (setting_in program.now env.now) registers (plain_block block.now) env.now) named.old named.new) }
+    requires { cells_in (records_of (program_of program.now).heads) ≤ 65536 }
+    ensures { OnOk result ((registers : List PlainName) → ArmNotes (arm (setting_in (program_of program.now) env.now) registers (plain_block block.now) env.now) named.old named.new) }
 {
     for stmt in block {
         note(&stmt.what, program, env, named)?;
@@ -265,13 +265,13 @@ pub fn perform<R: Reckon>(
     alloc: Global,
     reckon: &mut R,
     what: &What,
-    program: &Program,
+    program: &Checked,
     names: &[Name],
     env: &Env,
     data: &mut Data,
 ) -> Result<(), AllocError>
-    requires { cells_in (records_of program.now.heads) ≤ 65536 }
-    ensures { OnOk result (Works (action (setting_in program.now env.now) names.now (plain_what what.now) env.now) data.old data.new) }
+    requires { cells_in (records_of (program_of program.now).heads) ≤ 65536 }
+    ensures { OnOk result (Works (action (setting_in (program_of program.now) env.now) names.now (plain_what what.now) env.now) data.old data.new) }
 {
     match what {
         What::SetReg(x, e) => {
@@ -281,7 +281,7 @@ pub fn perform<R: Reckon>(
             Ok(())
         }
         What::Read(r, i, x) => {
-            if let Some(c) = record_number(program.heads.as_slice(), r, index_of(i, env)) {
+            if let Some(c) = record_number(program, r, index_of(i, env)) {
                 let v = number_at(data.cells.as_slice(), c as usize);
                 set_number(&mut data.registers, register_number(names, x), v);
             }
@@ -289,7 +289,7 @@ pub fn perform<R: Reckon>(
         }
         What::Write(r, i, e) => {
             if let Some(v) = reckon.of_data(e, names, env, data.registers.as_slice()) {
-                if let Some(c) = record_number(program.heads.as_slice(), r, index_of(i, env)) {
+                if let Some(c) = record_number(program, r, index_of(i, env)) {
                     set_number(&mut data.cells, c as usize, v);
                 }
             }
@@ -332,13 +332,13 @@ fn perform_all<R: Reckon>(
     alloc: Global,
     reckon: &mut R,
     block: &[Stmt],
-    program: &Program,
+    program: &Checked,
     names: &[Name],
     env: &Env,
     data: &mut Data,
 ) -> Result<(), AllocError>
-    requires { cells_in (records_of program.now.heads) ≤ 65536 }
-    ensures { OnOk result (ArmWorks (arm (setting_in program.now env.now) names.now (plain_block block.now) env.now) data.old data.new) }
+    requires { cells_in (records_of (program_of program.now).heads) ≤ 65536 }
+    ensures { OnOk result (ArmWorks (arm (setting_in (program_of program.now) env.now) names.now (plain_block block.now) env.now) data.old data.new) }
 {
     for stmt in block {
         reckon.at(stmt.line);

@@ -7,6 +7,7 @@ ghost use Rattle.task_ast.specs.meaning.Table.{numbers};
 ghost use Rattle.task_ast.specs.Plain.{opening};
 ghost use Rattle.task_ast.specs.View.{plain_program};
 ghost use Rattle.one_thread.specs.inner.Runs.{slots_of, Holds, IsSmall};
+ghost use Rattle.lock_checker.specs.Accepted.{program_of};
 
 use crate::cells::{barrier_numbers, lock_count, record_count};
 use crate::seats::Table;
@@ -14,8 +15,9 @@ use crate::threads::{Run, new_thread};
 use crate::variables::{number_at, register_names, zeros};
 use crate::work::Shared;
 use gp_base::{Feed, Inputs, Limits, Name, Nums, Seq};
+use lock_checker::Checked;
 use std::alloc::{AllocError, Global};
-use task_ast::{Head, Program, TaskText};
+use task_ast::{Head, TaskText};
 
 /// The names of each task's registers.
 pub fn all_registers(alloc: Global, tasks: &[TaskText]) -> Result<Vec<Seq<Name>>, AllocError>
@@ -81,17 +83,17 @@ impl<'a> Run<'a> {
     /// The run before its first subthread.
     pub fn new(
         alloc: Global,
-        program: &'a Program,
+        program: &'a Checked,
         slots: &'a [Seq<Name>],
         inputs: &Inputs,
         limits: Limits,
     ) -> Result<Run<'a>, AllocError>
-        requires small { IsSmall program.now }
-        requires slots { slots.now ≡ map slots_of program.now.tasks }
-        ensures { IfOk result (λ run. Holds program.now inputs.now limits run (opening (plain_program program.now) inputs.now limits)) }
+        requires small { IsSmall (program_of program.now) }
+        requires slots { slots.now ≡ map slots_of (program_of program.now).tasks }
+        ensures { IfOk result (λ run. Holds (program_of program.now) inputs.now limits run (opening (plain_program (program_of program.now)) inputs.now limits)) }
     {
-        let heads = program.heads.as_slice();
-        let main = main_place(program.tasks.as_slice()).unwrap_or(0);
+        let heads = program.program().heads.as_slice();
+        let main = main_place(program.program().tasks.as_slice()).unwrap_or(0);
         let Some(names) = slots.get(main) else {
             return Err(AllocError);
         };

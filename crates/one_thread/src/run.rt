@@ -71,9 +71,9 @@ impl Run<'_> {
     ) -> Result<Step, AllocError>
         requires exists { t < length self.old.threads.items }
         requires seated { t < length self.old.table.seats.items }
-        requires small { IsSmall self.old.program.now }
-        requires slots { self.old.slots.now ≡ map slots_of self.old.program.now.tasks }
-        requires sound { AreSound self.old.program.now self.old.threads.items }
+        requires small { IsSmall (program_of self.old.program.now) }
+        requires slots { self.old.slots.now ≡ map slots_of (program_of self.old.program.now).tasks }
+        requires sound { AreSound (program_of self.old.program.now) self.old.threads.items }
         requires held { AreHeld self.old.table.owners.owners.items self.old.table.owners.held.items }
         requires walks { WalksStand self.old.table }
         ensures { IfOk result (λ step. Stepped self.old t begins child step self.new) }
@@ -95,13 +95,13 @@ impl Run<'_> {
 
     /// The next subthread, or the end.
     pub fn next<R: Reckon>(&mut self, alloc: Global, reckon: &mut R) -> Result<Move, AllocError>
-        requires small { IsSmall self.old.program.now }
-        requires slots { self.old.slots.now ≡ map slots_of self.old.program.now.tasks }
-        requires sound { AreSound self.old.program.now self.old.threads.items }
+        requires small { IsSmall (program_of self.old.program.now) }
+        requires slots { self.old.slots.now ≡ map slots_of (program_of self.old.program.now).tasks }
+        requires sound { AreSound (program_of self.old.program.now) self.old.threads.items }
         requires held { AreHeld self.old.table.owners.owners.items self.old.table.owners.held.items }
         requires walks { WalksStand self.old.table }
         requires alike { length self.old.threads.items ≡ length self.old.table.seats.items }
-        ensures { IfOk result (λ m. (inputs : InputsThere) (limits : LimitsThere) (plain : Plain) → Holds self.old.program.now inputs limits self.old plain → Follows self.old.program.now inputs limits self.old plain m self.new) }
+        ensures { IfOk result (λ m. (inputs : InputsThere) (limits : LimitsThere) (plain : Plain) → Holds (program_of self.old.program.now) inputs limits self.old plain → Follows (program_of self.old.program.now) inputs limits self.old plain m self.new) }
     {
         match self.table.next_issue(alloc)? {
             Turn::Issue(t, begins, child) => {
@@ -147,9 +147,8 @@ pub fn run_reckoned<R: Reckon>(
 ) -> Result<PlainRun, AllocError>
     ensures { IfOk result (λ run. IsPlainRun (plain_program (program_of c.now)) inputs.now limits run) }
 {
-    let program = c.program();
-    let slots = all_registers(alloc, program.tasks.as_slice())?;
-    let mut run = Run::new(alloc, program, slots.as_slice(), inputs, limits)?;
+    let slots = all_registers(alloc, c.program().tasks.as_slice())?;
+    let mut run = Run::new(alloc, c, slots.as_slice(), inputs, limits)?;
     let mut order = Seq::new(alloc);
     loop {
         match run.next(alloc, reckon)? {

@@ -89,9 +89,8 @@ pub fn stand_before(
 ) -> Result<Option<Standing>, AllocError>
     ensures { let program = plain_program (program_of c.now) in let here = before program inputs.now limits position in IfOk result (λ standing. MatchOption standing (length (order program inputs.now limits) < position) (Stands here.table here.points)) }
 {
-    let program = c.program();
-    let slots = all_registers(alloc, program.tasks.as_slice())?;
-    let mut run = Run::new(alloc, program, slots.as_slice(), inputs, limits)?;
+    let slots = all_registers(alloc, c.program().tasks.as_slice())?;
+    let mut run = Run::new(alloc, c, slots.as_slice(), inputs, limits)?;
     for at in 0..position {
         match run.next(alloc, &mut Plainly)? {
             Move::Goes(_step) => {}

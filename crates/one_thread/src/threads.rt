@@ -5,6 +5,7 @@ ghost use Rattle.task_ast.specs.meaning.State;
 ghost use Rattle.one_thread.specs.inner.Subthreads.{settled};
 ghost use Rattle.one_thread.specs.inner.View.{WalksStand};
 ghost use Rattle.one_thread.specs.inner.Runs.{slots_of, registers_at, joined_of, AreSound, IsNew, Forks, Performed, IsSmall};
+ghost use Rattle.lock_checker.specs.Accepted.{program_of};
 
 use crate::data::Data;
 use crate::left::Left;
@@ -16,14 +17,15 @@ use crate::variables::{control_variables, number_at, with_number};
 use crate::walk::Walk;
 use crate::work::{Done, Shared, Told, work};
 use gp_base::{Name, Nums, Seq};
+use lock_checker::Checked;
 use std::alloc::{AllocError, Global};
 use std::mem;
-use task_ast::{Env, Next, Program, SyncOp};
+use task_ast::{Env, Next, SyncOp};
 
 /// A run: its program with the names of each task's registers, the thread table, the threads, and what they share.
 #[derive(Drop)]
 pub struct Run<'a> {
-    pub program: &'a Program,
+    pub program: &'a Checked,
     pub slots: &'a [Seq<Name>],
     pub turns: u64,
     pub table: Table,
@@ -34,17 +36,17 @@ pub struct Run<'a> {
 /// A thread at the start of a task. The error is that memory is out; a task that isn't there is none of a program.
 pub fn new_thread<'a>(
     alloc: Global,
-    program: &'a Program,
+    program: &'a Checked,
     slots: &'a [Seq<Name>],
     task: usize,
     me: usize,
     arguments: &[i64],
     registers: Nums,
 ) -> Result<Walk<'a>, AllocError>
-    requires { slots.now ≡ map slots_of program.now.tasks }
-    ensures { IfOk result (λ w. IsNew program.now task me arguments.now registers w) }
+    requires { slots.now ≡ map slots_of (program_of program.now).tasks }
+    ensures { IfOk result (λ w. IsNew (program_of program.now) task me arguments.now registers w) }
 {
-    let Some(text) = program.tasks.as_slice().get(task) else {
+    let Some(text) = program.program().tasks.as_slice().get(task) else {
         return Err(AllocError);
     };
     let Some(names) = slots.get(task) else {
@@ -130,8 +132,8 @@ fn settle(alloc: Global, walk: &mut Walk, begins: &SyncOp)
 impl Run<'_> {
     // A forked thread stands last, with these registers.
     fn add(&mut self, alloc: Global, begins: &SyncOp, registers: Nums) -> Result<(), AllocError>
-        requires { self.old.slots.now ≡ map slots_of self.old.program.now.tasks }
-        ensures threads { OnOk result (Forks self.old.program.now begins.now registers self.old.threads.items self.new.threads.items) }
+        requires { self.old.slots.now ≡ map slots_of (program_of self.old.program.now).tasks }
+        ensures threads { OnOk result (Forks (program_of self.old.program.now) begins.now registers self.old.threads.items self.new.threads.items) }
         ensures table { self.new.table ≡ self.old.table }
         ensures shared { self.new.shared ≡ self.old.shared }
         ensures program { self.new.program ≡ self.old.program }
@@ -167,9 +169,9 @@ impl Run<'_> {
         requires exists { t < length self.old.threads.items }
         requires seated { t < length self.old.table.seats.items }
         requires walks { WalksStand self.old.table }
-        requires small { IsSmall self.old.program.now }
-        requires slots { self.old.slots.now ≡ map slots_of self.old.program.now.tasks }
-        requires sound { AreSound self.old.program.now self.old.threads.items }
+        requires small { IsSmall (program_of self.old.program.now) }
+        requires slots { self.old.slots.now ≡ map slots_of (program_of self.old.program.now).tasks }
+        requires sound { AreSound (program_of self.old.program.now) self.old.threads.items }
         ensures { IfOk result (λ told. Performed self.old t begins.now child told self.new) }
     {
         let joined = joined_value(&begins.sync, &self.threads);

@@ -11,6 +11,7 @@ ghost use Rattle.task_ast.specs.meaning.Action.{Action};
 ghost use Rattle.one_thread.specs.inner.Working.{all_worked};
 ghost use Rattle.one_thread.specs.inner.Remaining.{left_of, rest_of};
 ghost use Rattle.one_thread.specs.inner.Walking.{setting_of, point_of, LeadsTo, Stepped, Came, Halted, Ran, Begun, Gives};
+ghost use Rattle.lock_checker.specs.Accepted.{program_of};
 
 use crate::cells::{barrier_number, lock_number, same_name};
 use crate::data::{Data, fits, has_value, index_of, is_zero, note, perform, register_number};
@@ -18,15 +19,16 @@ use crate::left::Left;
 use crate::reckoning::{Plainly, Reckon};
 use crate::variables::{register_names, set_number, variable_number, with_value, zeros};
 use gp_base::{LockNo, Name, Nums, Seq};
+use lock_checker::Checked;
 use std::alloc::{AllocError, Global};
 use std::mem;
-use task_ast::{Atom, Env, Expr, Next, Param, Program, Stmt, SyncOp, TaskText, What};
+use task_ast::{Atom, Env, Expr, Next, Param, Stmt, SyncOp, TaskText, What};
 
 /// A thread at work: its task, the statements left, its control variables under which expressions are read, and its
 /// data.
 #[derive(Drop)]
 pub struct Walk<'a> {
-    pub program: &'a Program,
+    pub program: &'a Checked,
     pub task: &'a TaskText,
     pub registers: &'a [Name],
     pub left: Left<'a>,
@@ -217,10 +219,10 @@ impl<'a> Walk<'a> {
         requires clean { self.now.env.regs ≡ [] }
         ensures { IfOk result (λ went. (into : Option PlainName) → Stepped (step_at (setting_of self.now) line (plain.Fork t.now (plain_exprs es.now) into) (rest_of self.now.left) (point_of self.now)) went self.now self.now) }
     {
-        let Some(k) = task_place(self.program.tasks.as_slice(), t) else {
+        let Some(k) = task_place(self.program.program().tasks.as_slice(), t) else {
             return Ok(fault(line));
         };
-        let params = self.program.tasks.as_slice()[k].params.as_slice();
+        let params = self.program.program().tasks.as_slice()[k].params.as_slice();
         let Some(args) = control_values(alloc, &mut Plainly, params, es, &self.env)? else {
             return Ok(fault(line));
         };
@@ -239,10 +241,10 @@ impl<'a> Walk<'a> {
 
     // A lock cell that a statement names.
     fn lock_at(&self, array: &Name, i: &Atom) -> Option<LockNo>
-        requires { cells_in (locks_of self.now.program.now.heads) ≤ 65536 }
+        requires { cells_in (locks_of (program_of self.now.program.now).heads) ≤ 65536 }
         ensures { result ≡ lock_number_at (setting_of self.now) array.now i.now self.now.env }
     {
-        match lock_number(self.program.heads.as_slice(), array, index_of(i, &self.env)) {
+        match lock_number(self.program, array, index_of(i, &self.env)) {
             Some(lock) => Some(LockNo(lock)),
             None => None,
         }
@@ -252,7 +254,7 @@ impl<'a> Walk<'a> {
         requires clean { self.now.env.regs ≡ [] }
         ensures { IfOk result (λ went. Stepped (step_at (setting_of self.now) line (plain.Barrier b.now) (rest_of self.now.left) (point_of self.now)) went self.now self.now) }
     {
-        match barrier_number(self.program.heads.as_slice(), b) {
+        match barrier_number(self.program.program().heads.as_slice(), b) {
             Some(n) => Ok(stop(SyncOp::Barrier(number(n)?), line)),
             None => Ok(fault(line)),
         }
@@ -277,7 +279,7 @@ impl<'a> Walk<'a> {
         line: u32,
     ) -> Result<Went<'a>, AllocError>
         requires clean { self.old.env.regs ≡ [] }
-        requires records { cells_in (records_of self.old.program.now.heads) ≤ 65536 }
+        requires records { cells_in (records_of (program_of self.old.program.now).heads) ≤ 65536 }
         requires registers { self.old.registers.now ≡ registers_of (plain_task self.old.task.now) }
         requires data { IsTrue (is_data (plain_what what.now)) }
         ensures { IfOk result (λ went. Stepped (step_at (setting_of self.old) line (plain_what what.now) (rest_of self.old.left) (point_of self.old)) went self.old self.new) }
@@ -302,8 +304,8 @@ impl<'a> Walk<'a> {
 
     // One control step. A loop turn is only found.
     fn step<R: Reckon>(&mut self, alloc: Global, reckon: &mut R) -> Result<Went<'a>, AllocError>
-        requires locks { cells_in (locks_of self.old.program.now.heads) ≤ 65536 }
-        requires records { cells_in (records_of self.old.program.now.heads) ≤ 65536 }
+        requires locks { cells_in (locks_of (program_of self.old.program.now).heads) ≤ 65536 }
+        requires records { cells_in (records_of (program_of self.old.program.now).heads) ≤ 65536 }
         requires registers { self.old.registers.now ≡ registers_of (plain_task self.old.task.now) }
         requires clean { self.old.env.regs ≡ [] }
         ensures { IfOk result (λ went. Stepped (step (setting_of self.old) (point_of self.old)) went self.old self.new) }
@@ -348,8 +350,8 @@ impl<'a> Walk<'a> {
 
     // Steps up to a loop turn or a stop.
     fn stretch<R: Reckon>(&mut self, alloc: Global, reckon: &mut R) -> Result<Went<'a>, AllocError>
-        requires locks { cells_in (locks_of self.old.program.now.heads) ≤ 65536 }
-        requires records { cells_in (records_of self.old.program.now.heads) ≤ 65536 }
+        requires locks { cells_in (locks_of (program_of self.old.program.now).heads) ≤ 65536 }
+        requires records { cells_in (records_of (program_of self.old.program.now).heads) ≤ 65536 }
         requires registers { self.old.registers.now ≡ registers_of (plain_task self.old.task.now) }
         requires clean { self.old.env.regs ≡ [] }
         ensures came { OnOk result (Came self.old self.new) }
@@ -370,8 +372,8 @@ impl<'a> Walk<'a> {
         reckon: &mut R,
         turns: u64,
     ) -> Result<Next, AllocError>
-        requires locks { cells_in (locks_of self.old.program.now.heads) ≤ 65536 }
-        requires records { cells_in (records_of self.old.program.now.heads) ≤ 65536 }
+        requires locks { cells_in (locks_of (program_of self.old.program.now).heads) ≤ 65536 }
+        requires records { cells_in (records_of (program_of self.old.program.now).heads) ≤ 65536 }
         requires registers { self.old.registers.now ≡ registers_of (plain_task self.old.task.now) }
         requires clean { self.old.env.regs ≡ [] }
         ensures { IfOk result (λ next. Ran (tree_body (setting_of self.old) turns (point_of self.old)) next self.old self.new) }
@@ -407,10 +409,10 @@ impl<'a> Walk<'a> {
         requires clean { self.old.env.regs ≡ [] }
         ensures { OnOk result (Gives (fork_named (setting_of self.old) t.now (plain_exprs es.now) (point_of self.old)) self.old self.new) }
     {
-        let Some(k) = task_place(self.program.tasks.as_slice(), t) else {
+        let Some(k) = task_place(self.program.program().tasks.as_slice(), t) else {
             return Ok(());
         };
-        let task = &self.program.tasks.as_slice()[k];
+        let task = &self.program.program().tasks.as_slice()[k];
         let params = task.params.as_slice();
         let Some(_values) = control_values(alloc, reckon, params, es, &self.env)? else {
             return Ok(());

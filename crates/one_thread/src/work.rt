@@ -5,6 +5,7 @@ ghost use Rattle.task_ast.specs.View.{plain_task};
 ghost use Rattle.task_ast.specs.meaning.Control.{first_actions, beginning};
 ghost use Rattle.one_thread.specs.inner.Walking.{setting_of, point_of, Begun};
 ghost use Rattle.one_thread.specs.inner.Subthreads.{at_work, RanWith};
+ghost use Rattle.lock_checker.specs.Accepted.{program_of};
 
 use crate::names::Names;
 use crate::reckoning::Reckon;
@@ -78,8 +79,8 @@ pub fn work<R: Reckon>(
     joined: i64,
     turns: u64,
 ) -> Result<Done, AllocError>
-    requires locks { cells_in (locks_of walk.old.program.now.heads) ≤ 65536 }
-    requires records { cells_in (records_of walk.old.program.now.heads) ≤ 65536 }
+    requires locks { cells_in (locks_of (program_of walk.old.program.now).heads) ≤ 65536 }
+    requires records { cells_in (records_of (program_of walk.old.program.now).heads) ≤ 65536 }
     requires registers { walk.old.registers.now ≡ registers_of (plain_task walk.old.task.now) }
     requires clean { walk.old.env.regs ≡ [] }
     ensures { IfOk result (λ done. RanWith walk.old shared.old begins.now child joined turns done walk.new shared.new) }

@@ -14,6 +14,7 @@ use Rattle.task_ast.specs.Table.{learning}
 use Rattle.task_ast.specs.meaning.Plain.{task_at, start_point}
 use Rattle.task_ast.specs.Plain.{Plain}
 use Rattle.task_ast.specs.View.{plain_task, plain_program}
+use Rattle.lock_checker.specs.Accepted.{program_of}
 use Rattle.one_thread.specs.declared.walk.Walk.{Walk}
 use Rattle.one_thread.specs.declared.work.Told.{Told}
 use Rattle.one_thread.specs.declared.work.Done.{Done}
@@ -40,7 +41,7 @@ joined_of _ walks = pos 0
 
 -- a thread of the program, between its subthreads
 pub record IsSound (code : Code) (w : Walk) : Type 0 where
-  pub program : w.program.now ≡ code
+  pub program : program_of w.program.now ≡ code
   pub registers : w.registers.now ≡ registers_of (plain_task w.task.now)
   pub clean : w.env.regs ≡ []
 
@@ -72,7 +73,7 @@ pub record Performed (old : Run) (t : ℕ) (begins : Next) (child : Option ℕ) 
   pub at : slice_get old.threads.items t ≡ Some was
   pub ran : RanWith (settled begins.sync was) old.shared begins.sync child
       (joined_of begins.sync old.threads.items) old.turns done is new.shared
-  pub threads : Forks old.program.now begins.sync done.child (slice_set old.threads.items t is) new.threads.items
+  pub threads : Forks (program_of old.program.now) begins.sync done.child (slice_set old.threads.items t is) new.threads.items
   pub table : table_of new.table ≡ learning (table_of old.table) t done.next
   pub owners : new.table.owners ≡ old.table.owners
   pub walks : WalksStand new.table
@@ -83,7 +84,7 @@ pub record Performed (old : Run) (t : ℕ) (begins : Next) (child : Option ℕ) 
 
 -- the code's run stands for a state of the plain run
 pub record Holds (code : Code) (inputs : Inputs) (limits : Limits) (run : Run) (plain : Plain) : Type 0 where
-  pub program : run.program.now ≡ code
+  pub program : program_of run.program.now ≡ code
   pub slots : run.slots.now ≡ map slots_of code.tasks
   pub turns : run.turns ≡ limits.turns
   pub feeds : run.shared.feeds ≡ zip (feeds_of code.heads) inputs.feeds

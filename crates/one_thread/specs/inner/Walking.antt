@@ -1,6 +1,7 @@
 -- Where a thread at work stands, and what its steps do.
 use Rattle.std.specs.Prelude.{◌≡◌, ℕ, ℤ, List, [], ◌++◌, Option, option_map, unwrap_or}
 use Rattle.task_ast.specs.View.{plain_stmts, plain_task}
+use Rattle.lock_checker.specs.Accepted.{program_of}
 use Rattle.task_ast.specs.meaning.Action.{Action}
 use Rattle.task_ast.specs.meaning.Body.{Step, Silent, Iteration, Act, Stop, Body}
 use Rattle.task_ast.specs.meaning.Control.{Setting, Point, going, tree_body}
@@ -14,7 +15,7 @@ use Rattle.one_thread.specs.inner.Working.{setting_in, recorded, all_worked}
 
 -- the program and the feeds of a thread at work
 abbrev pub setting_of : Walk → Setting
-setting_of walk = setting_in walk.program.now walk.env
+setting_of walk = setting_in (program_of walk.program.now) walk.env
 
 -- where it stands
 abbrev pub point_of : Walk → Point

@@ -13,7 +13,7 @@ use Rattle.one_thread.proofs.data.+fitting.Goals as goal
 
 pub all_fit-returns-then-not-fits : goal.all_fit-returns-then-not-fits
 all_fit-returns-then-not-fits t c = λ registers.
-    let s = setting_in c.args.program.now c.args.env.now in
+    let s = setting_in c.args.program.now.program c.args.env.now in
     let here : is_some (action s registers (plain_what c.stmt-item.result.what) c.args.env.now) ≡ false =
     sym (c.if-not-fits.ensures registers) in
     not_arm_some (action s registers (plain_what c.stmt-item.result.what) c.args.env.now)
@@ -26,7 +26,7 @@ all_fit-returns-then-not-fits t c = λ registers.
 
 pub all_fit-loop-stmt-preserved : goal.all_fit-loop-stmt-preserved
 all_fit-loop-stmt-preserved t c = λ registers.
-    let s = setting_in c.args.program.now c.args.env.now in
+    let s = setting_in c.args.program.now.program c.args.env.now in
     let here : is_some (action s registers (plain_what c.stmt-item.result.what) c.args.env.now) ≡ true =
     sym (c.if-not-fits.ensures registers) in
     arm_some (action s registers (plain_what c.stmt-item.result.what) c.args.env.now)
@@ -39,12 +39,13 @@ all_fit-loop-stmt-preserved t c = λ registers.
 
 pub all_fit-returns : goal.all_fit-returns
 all_fit-returns t c = λ registers.
-    sym (ap (λ (l : List Stmt). is_some (arm (setting_in c.args.program.now c.args.env.now) registers (plain_block l) c.args.env.now))
+    let s = setting_in c.args.program.now.program c.args.env.now in
+    sym (ap (λ (l : List Stmt). is_some (arm s registers (plain_block l) c.args.env.now))
     (drop_of_length-le c.args.block.now c.loop-stmt-test.false)) ∙ c.loop-stmt.invariant registers
 
 pub fits-returns-in-Print : goal.fits-returns-in-Print
 fits-returns-in-Print t c = λ registers.
-    let s = setting_in c.args.program.now c.args.env.now in
+    let s = setting_in c.args.program.now.program c.args.env.now in
     let have : c.have_values.result ≡ is_some (all_of (map (λ e. of_registers registers e c.args.env.now) (plain_exprs c.in-Print.es))) =
     search (rules, c.have_values.ensures registers) in
     have ∙ say_some (all_of (map (λ e. of_registers registers e c.args.env.now) (plain_exprs c.in-Print.es)))
@@ -52,7 +53,7 @@ fits-returns-in-Print t c = λ registers.
 
 pub fits-returns-then-all_fit : goal.fits-returns-then-all_fit
 fits-returns-then-all_fit t c = λ registers.
-    let s = setting_in c.args.program.now c.args.env.now in
+    let s = setting_in c.args.program.now.program c.args.env.now in
     let env = c.args.env.now in
     let there : is_some (of_registers registers (plain_expr c.in-When.e) env) ≡ true = search (rules, c.if-has_value-2.ensures registers) in
     let first : is_some (arm s registers (plain_block c.in-When.first) env) ≡ true = search (rules, c.if-all_fit.ensures registers) in
@@ -65,7 +66,7 @@ fits-returns-then-all_fit t c = λ registers.
 
 pub fits-returns-else-all_fit : goal.fits-returns-else-all_fit
 fits-returns-else-all_fit t c = λ registers.
-    let s = setting_in c.args.program.now c.args.env.now in
+    let s = setting_in c.args.program.now.program c.args.env.now in
     let env = c.args.env.now in
     let there : is_some (of_registers registers (plain_expr c.in-When.e) env) ≡ true = search (rules, c.if-has_value-2.ensures registers) in
     let first : is_some (arm s registers (plain_block c.in-When.first) env) ≡ false = search (rules, c.if-all_fit.ensures registers) in

@@ -8,5 +8,5 @@ use Rattle.one_thread.proofs.data.+fitting.Given as goal
 
 abbrev pub invariant-all_fit-loop-stmt : goal.invariant-all_fit-loop-stmt
 invariant-all_fit-loop-stmt l =
-    (registers : List Name) → is_some (arm (setting_in l.program l.env) registers (plain_block (drop l.stmt-index l.block)) l.env)
-    ≡ is_some (arm (setting_in l.program l.env) registers (plain_block l.block) l.env)
+    (registers : List Name) → is_some (arm (setting_in l.program.program l.env) registers (plain_block (drop l.stmt-index l.block)) l.env)
+    ≡ is_some (arm (setting_in l.program.program l.env) registers (plain_block l.block) l.env)

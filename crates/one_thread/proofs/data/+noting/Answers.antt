@@ -14,7 +14,7 @@ use Rattle.one_thread.proofs.data.+noting.Goals as goal
 
 pub note-returns-in_ok-note_all-in-When-2 : goal.note-returns-in_ok-note_all-in-When-2
 note-returns-in_ok-note_all-in-When-2 t c = λ registers a is.
-    let s = setting_in c.args.program.now c.args.env.now in
+    let s = setting_in c.args.program.now.program c.args.env.now in
     let env = c.args.env.now in
     let before = c.args.named.now in
     let between = c.note_all.new.named in
@@ -29,12 +29,12 @@ note-returns-in_ok-note_all-in-When-2 t c = λ registers a is.
 
 pub note_all-loop-stmt-init : goal.note_all-loop-stmt-init
 note_all-loop-stmt-init t c = λ registers.
-    let whole = arm (setting_in c.args.program.now c.args.env.now) registers (plain_block c.args.block.now) c.args.env.now in
+    let whole = arm (setting_in c.args.program.now.program c.args.env.now) registers (plain_block c.args.block.now) c.args.env.now in
     ahead_start naming arm_naming naming-in-order whole c.args.named.now
 
 pub note_all-loop-stmt-preserved : goal.note_all-loop-stmt-preserved
 note_all-loop-stmt-preserved t c = λ registers.
-    let s = setting_in c.args.program.now c.args.env.now in
+    let s = setting_in c.args.program.now.program c.args.env.now in
     let env = c.args.env.now in
     let whole = arm s registers (plain_block c.args.block.now) env in
     let block = c.args.block.now in
@@ -49,7 +49,7 @@ note_all-loop-stmt-preserved t c = λ registers.
 
 pub note_all-returns : goal.note_all-returns
 note_all-returns t c = λ registers a is.
-    let s = setting_in c.args.program.now c.args.env.now in
+    let s = setting_in c.args.program.now.program c.args.env.now in
     let whole = arm s registers (plain_block c.args.block.now) c.args.env.now in
     ahead_end naming arm_naming naming-in-order whole c.loop-stmt.named c.args.named.now
     (subst (λ o. Ahead arm_naming whole o c.loop-stmt.named c.args.named.now)

@@ -10,5 +10,5 @@ use Rattle.one_thread.proofs.data.+noting.Given as goal
 abbrev pub invariant-note_all-loop-stmt : goal.invariant-note_all-loop-stmt
 invariant-note_all-loop-stmt l =
     (registers : List Name)
-    → Ahead arm_naming (arm (setting_in l.program l.env) registers (plain_block l.block) l.env)
-    (arm (setting_in l.program l.env) registers (plain_block (drop l.stmt-index l.block)) l.env) l.named l.initial.named
+    → Ahead arm_naming (arm (setting_in l.program.program l.env) registers (plain_block l.block) l.env)
+    (arm (setting_in l.program.program l.env) registers (plain_block (drop l.stmt-index l.block)) l.env) l.named l.initial.named

@@ -14,7 +14,7 @@ use Rattle.one_thread.proofs.data.+performing.Goals as goal
 
 pub perform_all-loop-stmt-preserved : goal.perform_all-loop-stmt-preserved
 perform_all-loop-stmt-preserved g t c = λ joined.
-    let s = setting_in c.args.program.now c.args.env.now in
+    let s = setting_in c.args.program.now.program c.args.env.now in
     let names = c.args.names.now in
     let env = c.args.env.now in
     let block = c.args.block.now in
@@ -29,7 +29,7 @@ perform_all-loop-stmt-preserved g t c = λ joined.
 
 pub perform_all-returns : goal.perform_all-returns
 perform_all-returns g t c = λ joined a is.
-    let s = setting_in c.args.program.now c.args.env.now in
+    let s = setting_in c.args.program.now.program c.args.env.now in
     let names = c.args.names.now in
     let env = c.args.env.now in
     let block = c.args.block.now in
@@ -41,7 +41,7 @@ perform_all-returns g t c = λ joined a is.
 
 pub perform-returns-in_ok-push-in-Print : goal.perform-returns-in_ok-push-in-Print
 perform-returns-in_ok-push-in-Print g t c = λ joined a is.
-    let s = setting_in c.args.program.now c.args.env.now in
+    let s = setting_in c.args.program.now.program c.args.env.now in
     let line = rw (c.in-Some-2.is, c.as_slice-in-Print.ensures, c.as_slice-in-Print-2.ensures) at c.in_ok-line-in-Print.ensures in
     ap (λ l. record c.args.data.now { lines = l }) c.in_ok-push-in-Print.ensures.ok
     ∙ said (all_of (map (λ e. of_registers c.args.names.now e c.args.env.now) (plain_exprs c.in-Print.es))) c.args.data.now
@@ -50,7 +50,7 @@ perform-returns-in_ok-push-in-Print g t c = λ joined a is.
 
 pub perform-returns-in_default-2 : goal.perform-returns-in_default-2
 perform-returns-in_default-2 g t c = λ joined a is.
-    let s = setting_in c.args.program.now c.args.env.now in
+    let s = setting_in c.args.program.now.program c.args.env.now in
     let line = rw (c.in_default-2.is, c.as_slice-in-Print.ensures, c.as_slice-in-Print-2.ensures) at c.in_ok-line-in-Print.ensures in
     unsaid (all_of (map (λ e. of_registers c.args.names.now e c.args.env.now) (plain_exprs c.in-Print.es))) c.args.data.now
     c.args.data.now line joined a
@@ -58,7 +58,7 @@ perform-returns-in_default-2 g t c = λ joined a is.
 
 pub perform-returns-in_ok-perform_all-in-Some-of_data-2 : goal.perform-returns-in_ok-perform_all-in-Some-of_data-2
 perform-returns-in_ok-perform_all-in-Some-of_data-2 g t c = λ joined act is.
-    let s = setting_in c.args.program.now c.args.env.now in
+    let s = setting_in c.args.program.now.program c.args.env.now in
     let names = c.args.names.now in
     let env = c.args.env.now in
     let v = c.in-Some-of_data-2.v in
@@ -72,7 +72,7 @@ perform-returns-in_ok-perform_all-in-Some-of_data-2 g t c = λ joined act is.
 
 pub perform-returns-in_ok-perform_all-in-Some-of_data-2-2 : goal.perform-returns-in_ok-perform_all-in-Some-of_data-2-2
 perform-returns-in_ok-perform_all-in-Some-of_data-2-2 g t c = λ joined act is.
-    let s = setting_in c.args.program.now c.args.env.now in
+    let s = setting_in c.args.program.now.program c.args.env.now in
     let names = c.args.names.now in
     let env = c.args.env.now in
     let v = c.in-Some-of_data-2.v in

@@ -1,8 +1,6 @@
 use Rattle.std.proofs.Common.{◌∙◌, ap, sym, subst}
-use Rattle.task_ast.specs.Plain.{opening}
 use Rattle.task_ast.specs.View.{plain_program}
 use Rattle.lock_checker.proofs.BaseLemmas.{accepted_small}
-use Rattle.one_thread.specs.inner.Runs.{IsSmall, Holds}
 use Rattle.one_thread.specs.inner.Moves.{Follows, Ahead}
 use Rattle.one_thread.proofs.Running.{ahead-start, ahead-more, ahead-smaller, ahead-ends, follows-here}
 use Rattle.one_thread.proofs.run.run_reckoned.Goals as goal
@@ -10,18 +8,15 @@ use Rattle.one_thread.proofs.run.run_reckoned.Goals as goal
 pub new-requires-clause-small : goal.new-requires-clause-small
 new-requires-clause-small g c =
     let small = accepted_small (plain_program c.args.c.now.program) c.args.c.now.accepted.faultless in
-    subst IsSmall (sym c.program-program.ensures) (record { locks = small.0; records = small.1 })
+    record { locks = small.0; records = small.1 }
 
 pub loop-order-init : goal.loop-order-init
 loop-order-init g c =
     let small = accepted_small (plain_program c.args.c.now.program) c.args.c.now.accepted.faultless in
-    let holds =
-    subst (λ code. Holds code c.args.inputs.now c.args.limits c.in_ok-run.run'
-    (opening (plain_program code) c.args.inputs.now c.args.limits)) c.program-program.ensures c.in_ok-run.ensures in
     record {
       ahead =
           subst (λ l. Ahead c.args.c.now.program c.args.inputs.now c.args.limits l c.in_ok-run.run') (sym c.new-order.ensures)
-          (ahead-start c.args.c.now.program c.args.inputs.now c.args.limits c.in_ok-run.run' holds);
+          (ahead-start c.args.c.now.program c.args.inputs.now c.args.limits c.in_ok-run.run' c.in_ok-run.ensures);
       small = record { locks = small.0; records = small.1 };
     }
 

@@ -1,10 +1,9 @@
-use Rattle.std.proofs.Common.{◌∙◌, inl, inr, sym, subst, map, length, refl, arith, rules}
+use Rattle.std.proofs.Common.{◌∙◌, inl, inr, sym, subst, map, refl, arith}
 use Rattle.std.proofs.lemmas.List.{length-map}
 use Rattle.std.proofs.lemmas.Option.{slice_get-get_or}
 use Rattle.one_thread.specs.inner.View.{seat_of, onward_of}
 use Rattle.ended_seats.specs.Idle.{IdleOver}
-use Rattle.ended_seats.proofs.Walks.{Clearing, map-kept, over, clearing_start, clearing_step, clearing_done}
-use Rattle.task_ast.specs.Table.{unpassed}
+use Rattle.ended_seats.proofs.Walks.{Clearing, map-kept, over, clearing_step, clearing_done}
 use Rattle.one_thread.proofs.seats.clear.Goals as goal
 
 pub loop-t-preserved : goal.loop-t-preserved

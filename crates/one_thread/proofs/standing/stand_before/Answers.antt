@@ -1,9 +1,8 @@
-use Rattle.std.proofs.Common.{sym, subst}
-use Rattle.task_ast.specs.Plain.{Plain, opening}
+use Rattle.std.proofs.Common.{subst}
+use Rattle.task_ast.specs.Plain.{Plain}
 use Rattle.task_ast.specs.View.{plain_program}
 use Rattle.lock_checker.proofs.BaseLemmas.{accepted_small}
 use Rattle.one_thread.specs.PlainRuns.{Stands}
-use Rattle.one_thread.specs.inner.Runs.{IsSmall, Holds}
 use Rattle.one_thread.specs.inner.Moves.{Follows}
 use Rattle.one_thread.proofs.Running.{follows-here}
 use Rattle.one_thread.specs.inner.View.{table_of}
@@ -13,16 +12,13 @@ use Rattle.one_thread.proofs.standing.stand_before.Goals as goal
 pub new-requires-clause-small : goal.new-requires-clause-small
 new-requires-clause-small c =
     let small = accepted_small (plain_program c.args.c.now.program) c.args.c.now.accepted.faultless in
-    subst IsSmall (sym c.program-program.ensures) (record { locks = small.0; records = small.1 })
+    record { locks = small.0; records = small.1 }
 
 pub loop-at-init : goal.loop-at-init
 loop-at-init c =
     let small = accepted_small (plain_program c.args.c.now.program) c.args.c.now.accepted.faultless in
-    let holds =
-    subst (λ code. Holds code c.args.inputs.now c.args.limits c.in_ok-run.run'
-    (opening (plain_program code) c.args.inputs.now c.args.limits)) c.program-program.ensures c.in_ok-run.ensures in
     record {
-      nears = nears-start c.args.c.now.program c.args.inputs.now c.args.limits c.args.position c.in_ok-run.run' holds;
+      nears = nears-start c.args.c.now.program c.args.inputs.now c.args.limits c.args.position c.in_ok-run.run' c.in_ok-run.ensures;
       small = record { locks = small.0; records = small.1 };
     }
 

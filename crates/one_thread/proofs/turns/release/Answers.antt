@@ -1,4 +1,4 @@
-use Rattle.std.proofs.Common.{◌≡◌, ◌∙◌, Some, sym, ap, subst, arith, map, length, get_or, refl}
+use Rattle.std.proofs.Common.{◌∙◌, sym, ap, subst, arith, map, length, get_or, refl}
 use Rattle.std.proofs.lemmas.List.{length-map}
 use Rattle.std.proofs.lemmas.Option.{slice_get-get_or}
 use Rattle.ended_seats.specs.Idle.{IdleOver}

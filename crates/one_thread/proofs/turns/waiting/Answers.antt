@@ -1,4 +1,4 @@
-use Rattle.std.proofs.Common.{◌≡◌, ◌≤◌, ◌+◌, ◌∙◌, sym, ap, map, take, count_by, max, arith, rules}
+use Rattle.std.proofs.Common.{◌∙◌, sym, ap, map, take, count_by, arith}
 use Rattle.task_ast.specs.Table.{waits_at}
 use Rattle.task_ast.proofs.Counting.{one}
 use Rattle.task_ast.proofs.Looks.{get-at}

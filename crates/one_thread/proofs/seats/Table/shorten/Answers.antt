@@ -1,4 +1,4 @@
-use Rattle.std.proofs.Common.{◌≡◌, ◌<◌, ap, subst, refl, length, map, arith, rules}
+use Rattle.std.proofs.Common.{◌<◌, ap, subst, refl, length, map, arith, rules}
 use Rattle.std.proofs.lemmas.List.{length-map}
 use Rattle.one_thread.specs.inner.View.{table_of, seat_of, onward_of}
 use Rattle.task_ast.proofs.Looks.{get-at}

@@ -24,6 +24,6 @@ returns-in_ok-step-in-Issue g c = λ inputs limits plain holds.
     let is : next_issue (table_of c.args.self.now.table)
     ≡ Issue c.in-Issue.t c.in-Issue.begins c.in-Issue.child (table_of c.next_issue.new.self) =
     c.in_ok-t.ensures.turn ∙ ap (λ turn. gave turn (table_of c.next_issue.new.self)) c.in-Issue.is in
-    issue-goes c.args.self.now.program.now inputs limits c.args.self.now plain holds c.next_issue.new.self c.in-Issue.t
+    issue-goes c.args.self.now.program.now.program inputs limits c.args.self.now plain holds c.next_issue.new.self c.in-Issue.t
     c.in-Issue.begins c.in-Issue.child
     c.in_ok-step-in-Issue.step c.step.new.self c.in_ok-t.ensures.held c.in_ok-t.ensures.walks c.requires.alike is c.in_ok-step-in-Issue.ensures

@@ -14,7 +14,7 @@ work-requires-clause-locks g c =
     let here =
     c.requires.sound.each c.args.t c.index_mut-walk.result.now
     (get-at c.args.self.now.threads.items c.args.t c.index_mut-walk.result.now c.requires.exists c.index_mut-walk.ensures.value) in
-    subst (λ w. cells_in (locks_of w.program.now.heads) ≤ 65536) (sym c.settle.ensures)
+    subst (λ w. cells_in (locks_of w.program.now.program.heads) ≤ 65536) (sym c.settle.ensures)
     (subst (λ code. cells_in (locks_of code.heads) ≤ 65536) (sym here.program) c.requires.small.locks)
 
 pub work-requires-clause-records : goal.work-requires-clause-records
@@ -22,7 +22,7 @@ work-requires-clause-records g c =
     let here =
     c.requires.sound.each c.args.t c.index_mut-walk.result.now
     (get-at c.args.self.now.threads.items c.args.t c.index_mut-walk.result.now c.requires.exists c.index_mut-walk.ensures.value) in
-    subst (λ w. cells_in (records_of w.program.now.heads) ≤ 65536) (sym c.settle.ensures)
+    subst (λ w. cells_in (records_of w.program.now.program.heads) ≤ 65536) (sym c.settle.ensures)
     (subst (λ code. cells_in (records_of code.heads) ≤ 65536) (sym here.program) c.requires.small.records)
 
 pub work-requires-clause-registers : goal.work-requires-clause-registers

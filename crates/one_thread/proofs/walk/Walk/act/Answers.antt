@@ -16,7 +16,7 @@ returns-in_ok-perform g c =
     let walk = c.args.self.now in
     let names = registers_of (plain_task walk.task.now) in
     let by : List Name → Option Action =
-    λ registers. action (setting_in walk.program.now walk.env) registers (plain_what c.args.what.now) walk.env in
+    λ registers. action (setting_in walk.program.now.program walk.env) registers (plain_what c.args.what.now) walk.env in
     let works =
     subst (λ r. Works (by r) (record walk.data { named = c.note.new.named }) c.perform.new.data) c.requires.registers
     c.in_ok-perform.ensures in

@@ -10,19 +10,19 @@ use Rattle.one_thread.proofs.walk.Walk.give_registers.Goals as goal
 
 pub returns-in_default : goal.returns-in_default
 returns-in_default g c =
-    let none : None ≡ position (λ task. is_name c.args.t.now task.name) c.args.self.now.program.now.tasks = search rules in
+    let none : None ≡ position (λ task. is_name c.args.t.now task.name) c.args.self.now.program.now.program.tasks = search rules in
     gives-none c.args.self.now _ (fork-untasked c.args.self.now c.args.t.now (plain_exprs c.args.es.now)
-    (unnamed-is c.args.t.now c.args.self.now.program.now none))
+    (unnamed-is c.args.t.now c.args.self.now.program.now.program none))
 
 pub returns-in_default-2 : goal.returns-in_default-2
 returns-in_default-2 g c =
     let walk = c.args.self.now in
-    let at : Some c.in-Some.k ≡ position (λ task. is_name c.args.t.now task.name) walk.program.now.tasks = search rules in
-    let inside : c.in-Some.k < length walk.program.now.tasks = search rules in
-    let is : c.index-as_slice-k.result ≡ get_or walk.program.now.tasks c.in-Some.k c.index-as_slice-k.result = search rules in
+    let at : Some c.in-Some.k ≡ position (λ task. is_name c.args.t.now task.name) walk.program.now.program.tasks = search rules in
+    let inside : c.in-Some.k < length walk.program.now.program.tasks = search rules in
+    let is : c.index-as_slice-k.result ≡ get_or walk.program.now.program.tasks c.in-Some.k c.index-as_slice-k.result = search rules in
     let named =
-    named-is c.args.t.now walk.program.now c.in-Some.k c.index-as_slice-k.result at
-    (get-at walk.program.now.tasks c.in-Some.k c.index-as_slice-k.result inside is) in
+    named-is c.args.t.now walk.program.now.program c.in-Some.k c.index-as_slice-k.result at
+    (get-at walk.program.now.program.tasks c.in-Some.k c.index-as_slice-k.result inside is) in
     let task = plain_task c.index-as_slice-k.result in
     let none : None ≡ control_arguments c.index-as_slice-k.result.params (plain_exprs c.args.es.now) walk.env = search rules in
     gives-none walk _ (fork-uncontrolled walk c.args.t.now (plain_exprs c.args.es.now) task c.requires.clean named none)
@@ -30,12 +30,12 @@ returns-in_default-2 g c =
 pub returns-then-not-data_fits : goal.returns-then-not-data_fits
 returns-then-not-data_fits g c =
     let walk = c.args.self.now in
-    let at : Some c.in-Some.k ≡ position (λ task. is_name c.args.t.now task.name) walk.program.now.tasks = search rules in
-    let inside : c.in-Some.k < length walk.program.now.tasks = search rules in
-    let is : c.index-as_slice-k.result ≡ get_or walk.program.now.tasks c.in-Some.k c.index-as_slice-k.result = search rules in
+    let at : Some c.in-Some.k ≡ position (λ task. is_name c.args.t.now task.name) walk.program.now.program.tasks = search rules in
+    let inside : c.in-Some.k < length walk.program.now.program.tasks = search rules in
+    let is : c.index-as_slice-k.result ≡ get_or walk.program.now.program.tasks c.in-Some.k c.index-as_slice-k.result = search rules in
     let named =
-    named-is c.args.t.now walk.program.now c.in-Some.k c.index-as_slice-k.result at
-    (get-at walk.program.now.tasks c.in-Some.k c.index-as_slice-k.result inside is) in
+    named-is c.args.t.now walk.program.now.program c.in-Some.k c.index-as_slice-k.result at
+    (get-at walk.program.now.program.tasks c.in-Some.k c.index-as_slice-k.result inside is) in
     let task = plain_task c.index-as_slice-k.result in
     let some : Some c.in-Some-2._values ≡ control_arguments c.index-as_slice-k.result.params (plain_exprs c.args.es.now) walk.env =
     search rules in
@@ -47,12 +47,12 @@ returns-then-not-data_fits g c =
 pub returns : goal.returns
 returns g c =
     let walk = c.args.self.now in
-    let at : Some c.in-Some.k ≡ position (λ task. is_name c.args.t.now task.name) walk.program.now.tasks = search rules in
-    let inside : c.in-Some.k < length walk.program.now.tasks = search rules in
-    let is : c.index-as_slice-k.result ≡ get_or walk.program.now.tasks c.in-Some.k c.index-as_slice-k.result = search rules in
+    let at : Some c.in-Some.k ≡ position (λ task. is_name c.args.t.now task.name) walk.program.now.program.tasks = search rules in
+    let inside : c.in-Some.k < length walk.program.now.program.tasks = search rules in
+    let is : c.index-as_slice-k.result ≡ get_or walk.program.now.program.tasks c.in-Some.k c.index-as_slice-k.result = search rules in
     let named =
-    named-is c.args.t.now walk.program.now c.in-Some.k c.index-as_slice-k.result at
-    (get-at walk.program.now.tasks c.in-Some.k c.index-as_slice-k.result inside is) in
+    named-is c.args.t.now walk.program.now.program c.in-Some.k c.index-as_slice-k.result at
+    (get-at walk.program.now.program.tasks c.in-Some.k c.index-as_slice-k.result inside is) in
     let task = plain_task c.index-as_slice-k.result in
     let some : Some c.in-Some-2._values ≡ control_arguments c.index-as_slice-k.result.params (plain_exprs c.args.es.now) walk.env =
     search rules in
