@@ -4,6 +4,7 @@ pub mod Fitting
 pub mod Forks
 pub mod Holds
 pub mod Issues
+pub mod Jumps
 pub mod Lefts
 pub mod Looking
 pub mod Mirroring

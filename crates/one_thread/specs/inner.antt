@@ -3,6 +3,7 @@ pub mod Holding
 pub mod Moves
 pub mod Places
 pub mod Remaining
+pub mod Resting
 pub mod Runs
 pub mod Subthreads
 pub mod View

@@ -9,6 +9,7 @@ mod names;
 mod opening;
 mod owners;
 mod reckoning;
+mod resting;
 mod run;
 mod seats;
 mod standing;

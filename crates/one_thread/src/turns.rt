@@ -73,8 +73,8 @@ fn add_child(seats: &mut Vec<Seat>, sync: &SyncOp) -> Result<Option<usize>, Allo
     }
 }
 
-// The thread that a join names, where there is one.
-fn joined(h: i64, threads: usize) -> Option<usize>
+/// The thread that a join names, where there is one.
+pub fn joined(h: i64, threads: usize) -> Option<usize>
     ensures { result ≡ joined_in h threads }
 {
     if h < 0 {
@@ -339,6 +339,7 @@ impl Table {
         ensures walks { OnOk result (WalksStand self.new) }
     {
         loop {
+            self.skip();
             match self.turn(alloc)? {
                 Turn::Pass => {}
                 turn => return Ok(turn),

@@ -1,4 +1,4 @@
-use Rattle.std.proofs.Common.{◌∙◌, ap}
+use Rattle.std.proofs.Common.{◌∙◌, ap, arith}
 use Rattle.gp_base.specs.declared.ending.End.TheVariants.{Finished}
 use Rattle.task_ast.specs.meaning.Repeat.{go_on}
 use Rattle.task_ast.specs.Turn.{Ended, turn, turns_left, next_issue}
@@ -9,13 +9,16 @@ use Rattle.one_thread.proofs.seats.Table.next_issue.Goals as goal
 
 pub loop-turn-smaller : goal.loop-turn-smaller
 loop-turn-smaller c =
-    turn-IsFalling.falls (table_of c.loop-turn.self) (table_of c.turn.new.self)
-    (c.in_ok-turn.ensures.turn ∙ ap (λ r. gives r (table_of c.turn.new.self)) c.in-Pass.is)
+    let falls =
+    turn-IsFalling.falls (table_of c.skip.new.self) (table_of c.turn.new.self)
+    (c.in_ok-turn.ensures.turn ∙ ap (λ r. gives r (table_of c.turn.new.self)) c.in-Pass.is) in
+    let left = c.skip.ensures.left in
+    omega (arith, falls, left)
 
 pub loop-turn-preserved : goal.loop-turn-preserved
 loop-turn-preserved c = record {
   same =
-      c.loop-turn.invariant.same ∙ next_issue_step (table_of c.loop-turn.self)
+      c.loop-turn.invariant.same ∙ c.skip.ensures.issue ∙ next_issue_step (table_of c.skip.new.self)
       ∙ ap (go_on turn turns_left (Ended Finished) next_issue)
       (c.in_ok-turn.ensures.turn ∙ ap (λ r. gives r (table_of c.turn.new.self)) c.in-Pass.is);
   held = c.in_ok-turn.ensures.held;
@@ -25,7 +28,7 @@ loop-turn-preserved c = record {
 pub returns-in_default : goal.returns-in_default
 returns-in_default c = record {
   turn =
-      c.loop-turn.invariant.same ∙ next_issue_step (table_of c.loop-turn.self)
+      c.loop-turn.invariant.same ∙ c.skip.ensures.issue ∙ next_issue_step (table_of c.skip.new.self)
       ∙ ap (go_on turn turns_left (Ended Finished) next_issue) c.in_ok-turn.ensures.turn
       ∙ last-turn c.in_ok-turn.turn (table_of c.turn.new.self) c.in_default.not-Pass;
   held = c.in_ok-turn.ensures.held;
