@@ -13,10 +13,10 @@ use Rattle.command_line.specs.declared.asked.Command.TheVariants as command
 use Rattle.command_line.proofs.KeepsNoLog.{KeepsNoLog}
 use Rattle.call_cases.specs.meaning.Work.{ToDo}
 use Rattle.call_cases.specs.meaning.PlainText.{plain_ran}
-use Rattle.call_cases.specs.meaning.Lines.{out_of_memory_line}
+use Rattle.call_cases.specs.declared.lines.Tool.TheVariants.{Gprs}
 use Rattle.call_cases.specs.meaning.RunCommands.{end_status, work_status, work_text, trace_for}
 use Rattle.call_cases.specs.meaning.Answers.{Change, Fails, IsEmpty}
-use Rattle.call_cases.specs.Answers.{unwritten, LineEnds, RunEnds, LogEnds, log_finished, log_no_memory, log_write_failed, log_unbegun}
+use Rattle.call_cases.specs.Answers.{unwritten, LineEnds, memory_line, RunEnds, LogEnds, log_finished, log_no_memory, log_write_failed, log_unbegun}
 use Rattle.call_cases.proofs.Headlines.{run_of_memory}
 use Rattle.batch_calls.specs.meaning.LogCommands.{log_for, TakesLog}
 use Rattle.batch_calls.specs.inner.Logged.{IsLogged, LogsFor, stop_status}
@@ -89,12 +89,12 @@ module _ (asked : Asked) (work : ToDo) (out err : Change) (status : ℕ) (journa
 -- a run that did not begin, since memory was out
 pub unbegun_ends : (c : Command) (asked : Asked) (work : ToDo) (written : Option (List ℕ)) (faults : ℕ) (err : Change) (status : ℕ)
     (journal : Journal) → IsEmpty journal
-    → LineEnds 1 out_of_memory_line err status → EndsBy c asked work (unwritten written faults) err status journal
+    → LineEnds 1 memory_line err status → EndsBy c asked work (unwritten written faults) err status journal
 unbegun_ends c asked work written faults err status journal empty ends = go c
   where
     ran : (k : Command) → RunEnds (work_text k work) (trace_for asked journal) (work_status k work) (unwritten written faults) err status
     ran k =
-        run_of_memory (work_text k work) (trace_for asked journal) (work_status k work) (unwritten written faults) err status
+        run_of_memory Gprs (work_text k work) (trace_for asked journal) (work_status k work) (unwritten written faults) err status
         (prefix_none written (work_text k work)) ends
 
     go : (k : Command) → EndsBy k asked work (unwritten written faults) err status journal

@@ -15,9 +15,9 @@ use Rattle.command_line.specs.declared.asked.Asked.{Asked}
 use Rattle.call_cases.specs.meaning.Work.{ToDo}
 use Rattle.call_cases.specs.meaning.PlainText.{plain_ran}
 use Rattle.call_cases.specs.meaning.RunCommands.{IsWhole, end_status}
-use Rattle.call_cases.specs.meaning.Lines.{out_of_memory_line, write_fault_line}
+use Rattle.call_cases.specs.declared.lines.Tool.TheVariants.{Gprs}
 use Rattle.call_cases.specs.meaning.Answers.{Change, IsEmpty}
-use Rattle.call_cases.specs.Answers.{unwritten, LineEnds, whole, line_failed, line_no_memory, RunEnds}
+use Rattle.call_cases.specs.Answers.{unwritten, LineEnds, whole, line_failed, line_no_memory, memory_line, write_line, RunEnds}
 use Rattle.call_cases.proofs.Headlines.{none_taken, run_of_failed, run_of_memory, run_of_whole}
 use Rattle.call_cases.proofs.RunSound.{empty_journal_of, retired_none}
 use Rattle.batch_calls.specs.inner.Planned.{Carries}
@@ -40,7 +40,7 @@ module _ (work : ToDo) (text trace : List ℕ) (out err : Change) (status : ℕ)
       record {
         ends =
             subst (λ d. RunEnds text trace d out err status) (is_due ∙ ap end_status here.report.end)
-            (run_of_whole text trace due out err status here.all ends);
+            (run_of_whole Gprs text trace due out err status here.all ends);
         journalled = record { lawful = here.journal; complete = λ is. here.report.complete; retired = here.retired };
       }
 
@@ -65,11 +65,11 @@ module _ (work : ToDo) (text trace : List ℕ) (out err : Change) (status : ℕ)
 
       go : (w : StopWhy) → stop.why ≡ w → StopsWith w err status → EndsFor work text trace out err status stop.journal
       go why.WriteFault is ends =
-          ended (run_of_failed text trace (end_status (plain_ran work).end) out err status here.part (here.cause is) ends)
-          (stopped_whole 8 status write_fault_line err (inl refl) ends)
+          ended (run_of_failed Gprs text trace (end_status (plain_ran work).end) out err status here.part (here.cause is) ends)
+          (stopped_whole 8 status write_line err (inl refl) ends)
       go why.OutOfMemory is ends =
-          ended (run_of_memory text trace (end_status (plain_ran work).end) out err status here.part ends)
-          (stopped_whole 1 status out_of_memory_line err (inr refl) ends)
+          ended (run_of_memory Gprs text trace (end_status (plain_ran work).end) out err status here.part ends)
+          (stopped_whole 1 status memory_line err (inr refl) ends)
 
 -- no trace is asked for, and nothing is written
 pub untraced : (due : ℕ) (traced : Bool) (trace : List ℕ) (err : Change) → traced ≡ false → err.written' ≡ err.written
@@ -83,7 +83,7 @@ trace_without due line err kept = line_no_memory (subst (λ w. AppendsPrefix err
 
 -- a run that did not begin, since memory was out
 pub unbegun_carries : (asked : Asked) (work : ToDo) (written : Option (List ℕ)) (faults : ℕ) (err : Change) (status : ℕ) (journal : Journal)
-    → IsEmpty journal → LineEnds 1 out_of_memory_line err status
+    → IsEmpty journal → LineEnds 1 memory_line err status
     → Carries asked work (unwritten written faults) err status journal
 unbegun_carries asked work written faults err status journal empty ends =
     record {
@@ -91,7 +91,7 @@ unbegun_carries asked work written faults err status journal empty ends =
       unjournalled = λ is. empty;
       run = λ is. record {
         lawful = empty_journal_of work journal empty;
-        complete = λ whole. absurd (stopped_whole 1 status out_of_memory_line err (inr refl) ends whole);
+        complete = λ whole. absurd (stopped_whole 1 status memory_line err (inr refl) ends whole);
         retired = retired_none work journal written faults empty;
       };
     }

@@ -22,7 +22,7 @@ use crate::basis::{Basis, Output};
 use crate::logged::{outcome_logged, put_logged};
 use crate::plan::Begins;
 use crate::texts::OUTPUT;
-use call_cases::{OUT_OF_MEMORY, Outcome, WRITE_FAULT, empty_journal, end_status, end_with};
+use call_cases::{OUT_OF_MEMORY, Outcome, Tool, WRITE_FAULT, empty_journal, end_status, end_with, tell_line};
 use command_line::Soak;
 use crew::{Crew, InlineCrew};
 use engine::{EngineStop, Report, StopWhy, drive};
@@ -58,9 +58,9 @@ fn stop_with<E: Sink>(err: &mut E, why: StopWhy, recheck: &Recheck) -> u8
     ensures { StopsWith why (change_of E.written E.faults err.old err.new) result }
 {
     match why {
-        StopWhy::WriteFault => end_with(err, WRITE_FAULT, 8),
+        StopWhy::WriteFault => tell_line(Tool::Gprs, err, WRITE_FAULT, 8),
         StopWhy::OutOfMemory if recheck.has_stopped() => 1,
-        StopWhy::OutOfMemory => end_with(err, OUT_OF_MEMORY, 1),
+        StopWhy::OutOfMemory => tell_line(Tool::Gprs, err, OUT_OF_MEMORY, 1),
     }
 }
 
@@ -338,7 +338,7 @@ pub fn unbegun<E: Sink>(alloc: Global, err: &mut E) -> Outcome
     ensures { (asked : Asked) (work : ToDo) (written : Option (List ℕ)) (faults : ℕ) →
         Carries asked work (unwritten written faults) (change_of E.written E.faults err.old err.new) result.status result.journal }
 {
-    let status = end_with(err, OUT_OF_MEMORY, 1);
+    let status = tell_line(Tool::Gprs, err, OUT_OF_MEMORY, 1);
     Outcome {
         status,
         journal: empty_journal(alloc),

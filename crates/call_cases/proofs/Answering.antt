@@ -15,7 +15,7 @@ use Rattle.call_cases.specs.Refusals.{RefusesCase, AnswersCase}
 -- an answer tells one case where it tells another
 pub refuses_map : {T : Type 0} (Is Js : Case T → Type 0) → ((case : Case T) → Is case → Js case) → (refusal : Refusal)
     → RefusesCase Is refusal → RefusesCase Js refusal
-refuses_map Is Js to RefusedUsage is = to (Refused 2 [] usage_line) is
+refuses_map Is Js to RefusedUsage (line, is) = (line, to (Refused 2 [] line) is)
 refuses_map Is Js to (RefusedProgram line) (name, is) = (name, to (Refused 3 (name ∷ []) line) is)
 refuses_map Is Js to (RefusedInput line) (names, is) = (names, to (Refused 4 names line) is)
 refuses_map Is Js to (ReadFault name) (case, is, reads) = (case, to case is, reads)
@@ -32,7 +32,7 @@ module _ {A T : Type 0} (asking : Asking A T) (words : List (List ℕ)) where
   pub usage_case : (told : Option Files) → asking.reading words ≡ None
       → IfSome told (λ files. RefusesCase (IsCase asking words files) RefusedUsage)
   usage_case None none = tt
-  usage_case (Some files) none = no_command none
+  usage_case (Some files) none = (usage_line asking.tool, no_command none)
 
   -- the case of what is asked is that of the words that ask for it
   pub asked_case : {R : Type 0} (case_of : R → Case T) (told : Option Files) (asked : A) (result : Result R Refusal)

@@ -11,7 +11,6 @@ use Rattle.task_parser.specs.meaning.Spelling.{Meaning, Stands, LexFails, ParseF
 use Rattle.call_cases.specs.declared.reading.Refusal.{Refusal}
 use Rattle.call_cases.specs.declared.reading.Refusal.TheVariants.{Usage as RefusedUsage, BadProgram as RefusedProgram, BadInput as RefusedInput, ReadFault, OutOfMemory}
 use Rattle.call_cases.specs.meaning.Work.{Files, Case, Refused, Go, after_file}
-use Rattle.call_cases.specs.meaning.Lines.{usage_line}
 use Rattle.call_cases.specs.meaning.Commands.{Asking}
 use Rattle.call_cases.specs.meaning.Case.{IsCaseOf, no_program, of_text, program_case, meant_case, names_read}
 use Rattle.call_cases.specs.Refusals.{RefusesCase}
@@ -25,7 +24,13 @@ further_case next (Go names work) = next names work
 abbrev pub further_asking : {A B S T : Type 0} → Asking A S → (B → A) → (List (List ℕ) → Option B) → (B → Program → Files → Case T)
     → Asking B T
 further_asking asking asks_for reading supplied =
-    record { reading = reading; program = λ b. asking.program (asks_for b); files = λ b. asking.files (asks_for b); supplied = supplied }
+    record {
+      tool = asking.tool;
+      reading = reading;
+      program = λ b. asking.program (asks_for b);
+      files = λ b. asking.files (asks_for b);
+      supplied = supplied;
+    }
 
 module _ {A B S T : Type 0} (asking : Asking A S) (asks_for : B → A) (reading : List (List ℕ) → Option B)
     (supplied : B → Program → Files → Case T) (b : B) (files : Files) (next : List Name → S → Case T)
@@ -57,7 +62,7 @@ module _ {A B S T : Type 0} (asking : Asking A S) (asks_for : B → A) (reading 
     -- a refusal of the other is one of this
     pub refuses_further : (refusal : Refusal) → RefusesCase (IsCaseOf asking (asks_for b) files) refusal
         → RefusesCase (IsCaseOf more b files) refusal
-    refuses_further RefusedUsage is = further (Refused 2 [] usage_line) is
+    refuses_further RefusedUsage (line, is) = (line, further (Refused 2 [] line) is)
     refuses_further (RefusedProgram line) (name, is) = (name, further (Refused 3 (name ∷ []) line) is)
     refuses_further (RefusedInput line) (names, is) = (names, further (Refused 4 names line) is)
     refuses_further (ReadFault name) (case, is, reads) = (further_case next case, further case is, still_read case name reads)

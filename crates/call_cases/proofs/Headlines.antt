@@ -1,7 +1,7 @@
 -- From what the parts of a top call ensure to what is promised of the call, for each value of the record of promises.
 --
--- A call refuses, or begins what is asked. What begins ends in one of a few ways, each with its status: RunEnds where
--- no log is kept, LogEnds where one is. Each fact of the promise goes by these ways; both come to Ended, from which the
+-- A call refuses, or begins what is asked. What begins ends in one of a few ways, each with its status: RunEndsOf where
+-- no log is kept, LogEndsOf where one is. Each fact of the promise goes by these ways; both come to Ended, from which the
 -- promise follows once. A refusal goes by its kinds, and writes the same whether a log would be kept or not.
 use Rattle.std.proofs.Common.{◌≡◌, ◌⊎◌, ℕ, true, false, List, [], ◌∷◌, take, IfSome, refl, sym, subst, inl, inr, arith, append-nil}
 use Rattle.std.specs.List.{Contains}
@@ -22,24 +22,26 @@ use Rattle.call_cases.specs.declared.reading.Refusal.TheVariants.{Usage as Refus
 use Rattle.call_cases.specs.meaning.Work.{Files, Case, Refused, Go}
 use Rattle.call_cases.specs.meaning.Commands.{Commands, Log, MayLog, Unlogged, Logged}
 use Rattle.call_cases.specs.Commands.{AreSound, IsApart}
-use Rattle.call_cases.specs.meaning.Case.{IsCase, ForCase, ForRun, names_read, status_of, text_of, due_of}
-use Rattle.call_cases.specs.meaning.Lines.{usage_line, out_of_memory_line, write_fault_line}
-use Rattle.call_cases.specs.Refusals.{RefusesCase, RefusesWords, RefusesShelf, TakesRefusal, RefusalEnds, usage_told, program_told, input_told, read_told, refusal_no_memory, refusal_failed}
+use Rattle.call_cases.specs.meaning.Case.{IsCase, no_command, ForCase, ForRun, names_read, status_of, text_of, due_of}
+use Rattle.call_cases.specs.declared.lines.Tool.{Tool}
+use Rattle.call_cases.specs.meaning.Lines.{tool_line, usage_line, read_fault_line, out_of_memory_line, write_fault_line}
+use Rattle.call_cases.specs.Refusals.{RefusesCase, RefusesWords, RefusesShelf, RefusalEndsOf, refusal_line}
 use Rattle.call_cases.specs.meaning.Answers.{Change, TakesAll, TakesPart, IsUntouched, Fails, Grew, IsEmpty, IsStopLine, TakesStop, Yields, due_status, no_memory, read_fault, write_fault}
-use Rattle.call_cases.specs.Answers.{unwritten, LineEnds, whole, line_failed, line_no_memory, RunEnds, finished, run_no_memory, output_failed, error_failed, LogEnds, log_finished, log_no_memory, log_write_failed, log_unbegun, PutFor, StopsBy}
+use Rattle.call_cases.specs.Answers.{unwritten, LineEnds, whole, line_failed, line_no_memory, RunEndsOf, finished, run_no_memory, output_failed, error_failed, LogEndsOf, log_finished, log_no_memory, log_write_failed, log_unbegun, PutFor, StopsBy}
 use Rattle.call_cases.specs.meaning.Headline.{Call, IsQuiet, TellsWrite, TellsStop, TellsCase, IsRefusal, HasCaseLine, error_for, RunsNothing, TellsReadFault, TellsWriteFault, IsStop, IsDue, TakesStopLines, ReadsNothing, MeetsCase, Headline}
 use Rattle.call_cases.proofs.OneCase.{for_known, for_each, for_map, none_some}
 
 -- a prefix of the line that tells the stop, after nothing else
-stop_taken : (begun : List ℕ) (err : Change) (stop : List ℕ) → IsStopLine stop → TakesPart err stop → TakesStop begun err
-stop_taken begun err stop is_stop (n, taken) = record { first = 0; stop = stop; is_stop = is_stop; second = n; taken = taken }
+stop_taken : (tool : Tool) (begun : List ℕ) (err : Change) (stop : List ℕ) → IsStopLine tool stop → TakesPart err stop
+    → TakesStop tool begun err
+stop_taken tool begun err stop is_stop (n, taken) = record { first = 0; stop = stop; is_stop = is_stop; second = n; taken = taken }
 
 -- a prefix of what comes first, and no line
-begun_taken : (begun : List ℕ) (err : Change) → TakesPart err begun → TakesStop begun err
-begun_taken begun err (n, taken) =
+begun_taken : (tool : Tool) (begun : List ℕ) (err : Change) → TakesPart err begun → TakesStop tool begun err
+begun_taken tool begun err (n, taken) =
     record {
       first = n;
-      stop = out_of_memory_line;
+      stop = (tool_line tool out_of_memory_line);
       is_stop = inl refl;
       second = 0;
       taken = subst (TakesAll err) (sym (append-nil (take n begun))) taken;
@@ -51,53 +53,61 @@ none_taken None = tt
 none_taken (Some written) = sym (append-nil written)
 
 -- a text that was not written whole, and the line that tells why
-module _ (text trace : List ℕ) (due : ℕ) (out err : Change) where
-  pub run_of_failed : (status : ℕ) → TakesPart out text → Fails out → LineEnds 8 write_fault_line err status
-      → RunEnds text trace due out err status
+module _ (tool : Tool) (text trace : List ℕ) (due : ℕ) (out err : Change) where
+  pub run_of_failed : (status : ℕ) → TakesPart out text → Fails out → LineEnds 8 (tool_line tool write_fault_line) err status
+      → RunEndsOf tool text trace due out err status
   run_of_failed status part fails (whole all) = output_failed part fails all
   run_of_failed status part fails (line_failed taken failed) =
-      error_failed part failed (stop_taken trace err write_fault_line (inr refl) taken)
-  run_of_failed status part fails (line_no_memory taken) = run_no_memory part (stop_taken trace err write_fault_line (inr refl) taken)
+      error_failed part failed (stop_taken tool trace err (tool_line tool write_fault_line) (inr refl) taken)
+  run_of_failed status part fails (line_no_memory taken) =
+      run_no_memory part (stop_taken tool trace err (tool_line tool write_fault_line) (inr refl) taken)
 
-  pub run_of_memory : (status : ℕ) → TakesPart out text → LineEnds 1 out_of_memory_line err status → RunEnds text trace due out err status
+  pub run_of_memory : (status : ℕ) → TakesPart out text → LineEnds 1 (tool_line tool out_of_memory_line) err status
+      → RunEndsOf tool text trace due out err status
   run_of_memory status part (whole all) =
-      run_no_memory part (stop_taken trace err out_of_memory_line (inl refl) (prefix_whole err.written err.written' out_of_memory_line all))
-  run_of_memory status part (line_failed taken failed) = error_failed part failed (stop_taken trace err out_of_memory_line (inl refl) taken)
-  run_of_memory status part (line_no_memory taken) = run_no_memory part (stop_taken trace err out_of_memory_line (inl refl) taken)
+      run_no_memory part
+      (stop_taken tool trace err (tool_line tool out_of_memory_line) (inl refl)
+      (prefix_whole err.written err.written' (tool_line tool out_of_memory_line) all))
+  run_of_memory status part (line_failed taken failed) =
+      error_failed part failed (stop_taken tool trace err (tool_line tool out_of_memory_line) (inl refl) taken)
+  run_of_memory status part (line_no_memory taken) =
+      run_no_memory part (stop_taken tool trace err (tool_line tool out_of_memory_line) (inl refl) taken)
 
   -- a text that was written whole, and the trace after it
-  pub run_of_whole : (status : ℕ) → TakesAll out text → LineEnds due trace err status → RunEnds text trace due out err status
+  pub run_of_whole : (status : ℕ) → TakesAll out text → LineEnds due trace err status → RunEndsOf tool text trace due out err status
   run_of_whole status taken (whole all) = finished taken all
   run_of_whole status taken (line_failed part failed) =
-      error_failed (prefix_whole out.written out.written' text taken) failed (begun_taken trace err part)
+      error_failed (prefix_whole out.written out.written' text taken) failed (begun_taken tool trace err part)
   run_of_whole status taken (line_no_memory part) =
-      run_no_memory (prefix_whole out.written out.written' text taken) (begun_taken trace err part)
+      run_no_memory (prefix_whole out.written out.written' text taken) (begun_taken tool trace err part)
 
 -- a text that is all there is to write, and the line that tells where it was not written
-module _ (text : List ℕ) (due : ℕ) (out err : Change) where
+module _ (tool : Tool) (text : List ℕ) (due : ℕ) (out err : Change) where
   pub put_whole : (put : Result ℕ SinkFault) (status : ℕ) → PutFor text due out put → put ≡ Ok status → err.written' ≡ err.written
-      → RunEnds text [] due out err status
+      → RunEndsOf tool text [] due out err status
   put_whole put status is ok kept =
       let here = subst (PutFor text due out) ok is in
-      subst (λ s. RunEnds text [] due out err s) (sym here.status)
+      subst (λ s. RunEndsOf tool text [] due out err s) (sym here.status)
       (finished here.all (subst (λ w. Appends err.written w []) (sym kept) (none_taken err.written)))
 
   pub put_stopped : (put : Result ℕ SinkFault) (fault : SinkFault) (status : ℕ) → PutFor text due out put → put ≡ Err fault
-      → StopsBy fault err status → RunEnds text [] due out err status
+      → StopsBy tool fault err status → RunEndsOf tool text [] due out err status
   put_stopped put Failed status is failed ends =
       let here = subst (PutFor text due out) failed is in
-      run_of_failed text [] due out err status here.part (here.cause refl) ends
+      run_of_failed tool text [] due out err status here.part (here.cause refl) ends
   put_stopped put sink.OutOfMemory status is failed ends =
       let here = subst (PutFor text due out) failed is in
-      run_of_memory text [] due out err status here.part ends
+      run_of_memory tool text [] due out err status here.part ends
 
 -- a prefix of a line that is due, or of the line that tells the stop
-due_lines : (is_due : List ℕ → Type 0) (err : Change) (due : List ℕ) → is_due due → TakesPart err due → TakesStopLines is_due err
-due_lines is_due err due for_case part = (due, for_case, begun_taken due err part)
+due_lines : (tool : Tool) (is_due : List ℕ → Type 0) (err : Change) (due : List ℕ) → is_due due → TakesPart err due
+    → TakesStopLines tool is_due err
+due_lines tool is_due err due for_case part = (due, for_case, begun_taken tool due err part)
 
-stop_lines : (is_due : List ℕ → Type 0) (err : Change) (due stop : List ℕ) → is_due due → IsStopLine stop → TakesPart err stop
-    → TakesStopLines is_due err
-stop_lines is_due err due stop for_case for_stop part = (due, for_case, stop_taken due err stop for_stop part)
+stop_lines : (tool : Tool) (is_due : List ℕ → Type 0) (err : Change) (due stop : List ℕ) → is_due due → IsStopLine tool stop
+    → TakesPart err stop
+    → TakesStopLines tool is_due err
+stop_lines tool is_due err due stop for_case for_stop part = (due, for_case, stop_taken tool due err stop for_stop part)
 
 -- the case that an answer tells, and its status
 told_case : {A T : Type 0} (commands : Commands A T) (words : List (List ℕ)) (files : Option Files) (known : Case T)
@@ -107,55 +117,56 @@ told_case commands words None known is = tt
 told_case commands words (Some files) known is = (known, is, refl)
 
 -- what was begun to be done
-module _ (text trace : List ℕ) (due : ℕ) (out err : Change) where
-  run_status : (grew : Type 0) (status : ℕ) → RunEnds text trace due out err status → Yields due grew (Fails out ⊎ Fails err) status
+module _ (tool : Tool) (text trace : List ℕ) (due : ℕ) (out err : Change) where
+  run_status : (grew : Type 0) (status : ℕ) → RunEndsOf tool text trace due out err status → Yields due grew (Fails out ⊎ Fails err) status
   run_status grew status (finished all traced) = due_status
   run_status grew status (run_no_memory part stop) = no_memory
   run_status grew status (output_failed part fails told) = write_fault (inl fails)
   run_status grew status (error_failed part fails stop) = write_fault (inr fails)
 
-  run_whole : (status : ℕ) → RunEnds text trace due out err status → IsApart status
+  run_whole : (status : ℕ) → RunEndsOf tool text trace due out err status → IsApart status
       → TakesAll out text × TakesAll err trace × (due ≡ status)
   run_whole status (finished all traced) is = (all, traced, refl)
   run_whole status (run_no_memory part stop) is = absurd (grind (arith, is))
   run_whole status (output_failed part fails told) is = absurd (grind (arith, is))
   run_whole status (error_failed part fails stop) is = absurd (grind (arith, is))
 
-  run_among : (status : ℕ) → RunEnds text trace due out err status → (status ≡ due) ⊎ IsStop status
+  run_among : (status : ℕ) → RunEndsOf tool text trace due out err status → (status ≡ due) ⊎ IsStop status
   run_among status (finished all traced) = inl refl
   run_among status (run_no_memory part stop) = inr (inl refl)
   run_among status (output_failed part fails told) = inr (inr refl)
   run_among status (error_failed part fails stop) = inr (inr refl)
 
-  run_part : (status : ℕ) → RunEnds text trace due out err status → TakesPart out text
+  run_part : (status : ℕ) → RunEndsOf tool text trace due out err status → TakesPart out text
   run_part status (finished all traced) = prefix_whole out.written out.written' text all
   run_part status (run_no_memory part stop) = part
   run_part status (output_failed part fails told) = part
   run_part status (error_failed part fails stop) = part
 
-  run_fault : (status : ℕ) → IsApart due → RunEnds text trace due out err status → status ≡ 8 → TellsWriteFault out err
+  run_fault : (status : ℕ) → IsApart due → RunEndsOf tool text trace due out err status → status ≡ 8 → TellsWriteFault tool out err
   run_fault status is_apart (finished all traced) is = absurd (grind (arith, is_apart, is))
   run_fault status is_apart (run_no_memory part stop) is = absurd (omega (arith, is))
   run_fault status is_apart (output_failed part fails told) is = inr (fails, told)
   run_fault status is_apart (error_failed part fails stop) is = inl fails
 
-  run_not_refused : (status : ℕ) → IsApart due → RunEnds text trace due out err status → IsRefusal status → ⊥
+  run_not_refused : (status : ℕ) → IsApart due → RunEndsOf tool text trace due out err status → IsRefusal status → ⊥
   run_not_refused status is_apart (finished all traced) is = grind (arith, is_apart, is)
   run_not_refused status is_apart (run_no_memory part stop) is = grind (arith, is)
   run_not_refused status is_apart (output_failed part fails told) is = grind (arith, is)
   run_not_refused status is_apart (error_failed part fails stop) is = grind (arith, is)
 
   run_stopped : (is_due : List ℕ → Type 0) → is_due trace → (status : ℕ) → IsApart due
-      → RunEnds text trace due out err status → IsStop status → TakesStopLines is_due err
+      → RunEndsOf tool text trace due out err status → IsStop status → TakesStopLines tool is_due err
   run_stopped is_due for_trace status is_apart (finished all traced) is = absurd (grind (arith, is_apart, is))
   run_stopped is_due for_trace status is_apart (run_no_memory part stop) is = (trace, for_trace, stop)
   run_stopped is_due for_trace status is_apart (output_failed part fails told) is =
-      stop_lines is_due err trace write_fault_line for_trace (inr refl) (prefix_whole err.written err.written' write_fault_line told)
+      stop_lines tool is_due err trace (tool_line tool write_fault_line) for_trace (inr refl)
+      (prefix_whole err.written err.written' (tool_line tool write_fault_line) told)
   run_stopped is_due for_trace status is_apart (error_failed part fails stop) is = (trace, for_trace, stop)
 
 -- what was begun to be done, and of which a log is kept
-module _ (text rows : List ℕ) (taken : Change → Type 0) (due : ℕ) (out err : Change) (journal : Journal) where
-  log_status : (grew : Type 0) (status : ℕ) → LogEnds text rows taken due out err journal status
+module _ (tool : Tool) (text rows : List ℕ) (taken : Change → Type 0) (due : ℕ) (out err : Change) (journal : Journal) where
+  log_status : (grew : Type 0) (status : ℕ) → LogEndsOf tool text rows taken due out err journal status
       → Yields due grew (Fails out ⊎ Fails err) status
   log_status grew status (log_finished all logged held) = due_status
   log_status grew status (log_no_memory part is) = no_memory
@@ -164,7 +175,7 @@ module _ (text rows : List ℕ) (taken : Change → Type 0) (due : ℕ) (out err
   log_status grew status (log_unbegun part empty (line_failed line fails)) = write_fault (inr fails)
   log_status grew status (log_unbegun part empty (line_no_memory line)) = no_memory
 
-  log_whole : (status : ℕ) → LogEnds text rows taken due out err journal status → IsApart status
+  log_whole : (status : ℕ) → LogEndsOf tool text rows taken due out err journal status → IsApart status
       → TakesAll out text × (TakesAll err rows × taken err) × (due ≡ status)
   log_whole status (log_finished all logged held) apart = (all, (logged, held), refl)
   log_whole status (log_no_memory part is) apart = absurd (grind (arith, apart))
@@ -173,7 +184,7 @@ module _ (text rows : List ℕ) (taken : Change → Type 0) (due : ℕ) (out err
   log_whole status (log_unbegun part empty (line_failed line fails)) apart = absurd (grind (arith, apart))
   log_whole status (log_unbegun part empty (line_no_memory line)) apart = absurd (grind (arith, apart))
 
-  log_among : (status : ℕ) → LogEnds text rows taken due out err journal status → (status ≡ due) ⊎ IsStop status
+  log_among : (status : ℕ) → LogEndsOf tool text rows taken due out err journal status → (status ≡ due) ⊎ IsStop status
   log_among status (log_finished all logged held) = inl refl
   log_among status (log_no_memory part is) = inr (inl refl)
   log_among status (log_write_failed part fails is) = inr (inr refl)
@@ -181,14 +192,14 @@ module _ (text rows : List ℕ) (taken : Change → Type 0) (due : ℕ) (out err
   log_among status (log_unbegun untouched empty (line_failed line fails)) = inr (inr refl)
   log_among status (log_unbegun untouched empty (line_no_memory line)) = inr (inl refl)
 
-  log_part : (status : ℕ) → LogEnds text rows taken due out err journal status → TakesPart out text
+  log_part : (status : ℕ) → LogEndsOf tool text rows taken due out err journal status → TakesPart out text
   log_part status (log_finished all logged held) = prefix_whole out.written out.written' text all
   log_part status (log_no_memory part is) = part
   log_part status (log_write_failed part fails is) = part
   log_part status (log_unbegun untouched empty line) =
       subst (λ w. AppendsPrefix out.written w text) (sym untouched.written) (prefix_none out.written text)
 
-  log_fault : (status : ℕ) → IsApart due → LogEnds text rows taken due out err journal status → status ≡ 8
+  log_fault : (status : ℕ) → IsApart due → LogEndsOf tool text rows taken due out err journal status → status ≡ 8
       → Fails out ⊎ Fails err
   log_fault status apart (log_finished all logged held) is = absurd (grind (arith, apart, is))
   log_fault status apart (log_no_memory part held) is = absurd (omega (arith, is))
@@ -197,7 +208,7 @@ module _ (text rows : List ℕ) (taken : Change → Type 0) (due : ℕ) (out err
   log_fault status apart (log_unbegun part empty (line_failed line fails)) is = inr fails
   log_fault status apart (log_unbegun part empty (line_no_memory line)) is = absurd (omega (arith, is))
 
-  log_not_refused : (status : ℕ) → IsApart due → LogEnds text rows taken due out err journal status → IsRefusal status → ⊥
+  log_not_refused : (status : ℕ) → IsApart due → LogEndsOf tool text rows taken due out err journal status → IsRefusal status → ⊥
   log_not_refused status apart (log_finished all logged held) is = grind (arith, apart, is)
   log_not_refused status apart (log_no_memory part held) is = grind (arith, is)
   log_not_refused status apart (log_write_failed part fails held) is = grind (arith, is)
@@ -205,20 +216,21 @@ module _ (text rows : List ℕ) (taken : Change → Type 0) (due : ℕ) (out err
   log_not_refused status apart (log_unbegun part empty (line_failed line fails)) is = grind (arith, is)
   log_not_refused status apart (log_unbegun part empty (line_no_memory line)) is = grind (arith, is)
 
-  line_part : (status : ℕ) → LineEnds 1 out_of_memory_line err status → TakesPart err out_of_memory_line
-  line_part status (whole all) = prefix_whole err.written err.written' out_of_memory_line all
+  line_part : (status : ℕ) → LineEnds 1 (tool_line tool out_of_memory_line) err status → TakesPart err (tool_line tool out_of_memory_line)
+  line_part status (whole all) = prefix_whole err.written err.written' (tool_line tool out_of_memory_line) all
   line_part status (line_failed part fails) = part
   line_part status (line_no_memory part) = part
 
   -- the log, or the line that tells that memory ran out before the run
   log_stopped : (is_due : List ℕ → Type 0) (line : List ℕ) → is_due line → (status : ℕ) → IsApart due
-      → LogEnds text rows taken due out err journal status → IsStop status
-      → (IsUntouched out × IsEmpty journal × TakesStopLines is_due err) ⊎ taken err
+      → LogEndsOf tool text rows taken due out err journal status → IsStop status
+      → (IsUntouched out × IsEmpty journal × TakesStopLines tool is_due err) ⊎ taken err
   log_stopped is_due line for_case status apart (log_finished all logged held) is = absurd (grind (arith, apart, is))
   log_stopped is_due line for_case status apart (log_no_memory part held) is = inr held
   log_stopped is_due line for_case status apart (log_write_failed part fails held) is = inr held
   log_stopped is_due line for_case status apart (log_unbegun untouched empty told) is =
-      inl (untouched, empty, stop_lines is_due err line out_of_memory_line for_case (inl refl) (line_part status told))
+      let stop = stop_lines tool is_due err line (tool_line tool out_of_memory_line) for_case (inl refl) (line_part status told) in
+      inl (untouched, empty, stop)
 
 -- How what was begun to be done ended: what its status says of what the streams took, whether a log is kept or not.
 record Ended {A T : Type 0} (commands : Commands A T) (call : Call) (names : List Name) (work : T) : Type 0 where
@@ -301,7 +313,9 @@ pub run_headline : {A T : Type 0} (commands : Commands A T) (sound : AreSound co
     → (commands.is_journalled asked ≡ false → IsEmpty journal)
     → (commands.has_journal work ≡ true → commands.lawful work journal × (commands.whole status → commands.complete work journal)
     × commands.retired work journal out)
-    → RunEnds (commands.text work) (commands.error asked journal) (commands.status work) out err status
+    → RunEndsOf commands.asking.tool (commands.text work) (commands.error asked (commands.status work) journal)
+    (commands.status work) out err
+    status
     → Headline commands (record {
       words = words;
       files = files;
@@ -325,29 +339,33 @@ run_headline {A} {T} commands sound words files failed failed' out err status jo
       status = status;
       journal = journal;
     } in
+    let tool = commands.asking.tool in
     let text = commands.text work in
-    let error = error_for commands (commands.asking.reading words) journal in
     let due = commands.status work in
+    let error = error_for commands (commands.asking.reading words) due journal in
     let apart : IsApart due = sound.apart due (sound.ends work) in
-    let ends : RunEnds text error due out err status =
-    subst (λ r. RunEnds text (error_for commands r journal) due out err status) (sym some) ends_asked in
+    let ends : RunEndsOf tool text error due out err status =
+    subst (λ r. RunEndsOf tool text (error_for commands r due journal) due out err status) (sym some) ends_asked in
     begun_headline commands sound call names work asked some known same empty run (record {
-      yields = run_status text error due out err (Grew failed failed') status ends;
-      all = λ is. let found = run_whole text error due out err status ends is in (found.0, found.2);
-      part = run_part text error due out err status ends;
-      among = run_among text error due out err status ends;
-      not_refused = run_not_refused text error due out err status apart ends;
-      quiet = λ is. subst (IsQuiet commands call) (sym unlogged) (run_whole text error due out err status ends (sound.apart status is)).1;
-      write_fault = λ is. subst (TellsWrite commands call) (sym unlogged) (run_fault text error due out err status apart ends is);
+      yields = run_status tool text error due out err (Grew failed failed') status ends;
+      all = λ is. let found = run_whole tool text error due out err status ends is in (found.0, found.2);
+      part = run_part tool text error due out err status ends;
+      among = run_among tool text error due out err status ends;
+      not_refused = run_not_refused tool text error due out err status apart ends;
+      quiet = λ is.
+          let found = run_whole tool text error due out err status ends (sound.apart status is) in
+          subst (IsQuiet commands call) (sym unlogged)
+          (subst (λ s. TakesAll err (error_for commands (commands.asking.reading words) s journal)) found.2 found.1);
+      write_fault = λ is. subst (TellsWrite commands call) (sym unlogged) (run_fault tool text error due out err status apart ends is);
       stopped = λ is. subst (λ log. TellsStop commands call log (Go names work)) (sym unlogged)
-          (run_stopped text error due out err (IsDue {T = T} (Grew failed failed') (Go names work) error) (inl refl) status apart
+          (run_stopped tool text error due out err (IsDue {T = T} tool (Grew failed failed') (Go names work) error) (inl refl) status apart
           ends is);
     })
 
 -- what a stop tells of the case where this log is kept
 log_told : {A T : Type 0} (commands : Commands A T) (call : Call) (log : Log T) (names : List Name) (work : T)
     → (IsUntouched call.out × IsEmpty call.journal
-    × TakesStopLines (IsDue {T = T} (Grew call.failed call.failed') (Go names work) []) call.err)
+    × TakesStopLines commands.asking.tool (IsDue {T = T} commands.asking.tool (Grew call.failed call.failed') (Go names work) []) call.err)
     ⊎ log.taken work call.journal call.err
     → TellsStop commands call (Logged log) (Go names work)
 log_told commands call log names work (inl unbegun) = inl unbegun
@@ -363,7 +381,8 @@ pub log_headline : {A T : Type 0} (commands : Commands A T) (sound : AreSound co
     → (commands.is_journalled asked ≡ false → IsEmpty journal)
     → (commands.has_journal work ≡ true → commands.lawful work journal × (commands.whole status → commands.complete work journal)
     × commands.retired work journal out)
-    → LogEnds (commands.text work) (log.whole work) (log.taken work journal) (commands.status work) out err journal status
+    → LogEndsOf commands.asking.tool (commands.text work) (log.whole work) (log.taken work journal)
+    (commands.status work) out err journal status
     → Headline commands (record {
       words = words;
       files = files;
@@ -387,25 +406,26 @@ log_headline {A} {T} commands sound log words files failed failed' out err statu
       status = status;
       journal = journal;
     } in
+    let tool = commands.asking.tool in
     let text = commands.text work in
     let rows = log.whole work in
     let taken = log.taken work journal in
     let due = commands.status work in
     let apart : IsApart due = sound.apart due (sound.ends work) in
     begun_headline commands sound call names work asked some known same empty run (record {
-      yields = log_status text rows taken due out err journal (Grew failed failed') status ends;
-      all = λ is. let found = log_whole text rows taken due out err journal status ends is in (found.0, found.2);
-      part = log_part text rows taken due out err journal status ends;
-      among = log_among text rows taken due out err journal status ends;
-      not_refused = log_not_refused text rows taken due out err journal status apart ends;
+      yields = log_status tool text rows taken due out err journal (Grew failed failed') status ends;
+      all = λ is. let found = log_whole tool text rows taken due out err journal status ends is in (found.0, found.2);
+      part = log_part tool text rows taken due out err journal status ends;
+      among = log_among tool text rows taken due out err journal status ends;
+      not_refused = log_not_refused tool text rows taken due out err journal status apart ends;
       quiet = λ is. subst (IsQuiet commands call) (sym logged)
           (for_known commands.asking words files (Go names work) (λ case. ForRun commands case (λ w. TakesAll err (log.whole w) × log.taken w journal err)) known
-          (λ _. (log_whole text rows taken due out err journal status ends (sound.apart status is)).1));
+          (λ _. (log_whole tool text rows taken due out err journal status ends (sound.apart status is)).1));
       write_fault =
-          λ is. subst (TellsWrite commands call) (sym logged) (log_fault text rows taken due out err journal status apart ends is);
+          λ is. subst (TellsWrite commands call) (sym logged) (log_fault tool text rows taken due out err journal status apart ends is);
       stopped = λ is. subst (λ kept. TellsStop commands call kept (Go names work)) (sym logged)
           (log_told commands call log names work
-          (log_stopped text rows taken due out err journal (IsDue {T = T} (Grew failed failed') (Go names work) []) []
+          (log_stopped tool text rows taken due out err journal (IsDue {T = T} tool (Grew failed failed') (Go names work) []) []
           (inl refl) status apart ends is));
     })
 
@@ -425,179 +445,224 @@ told_some commands words (Some files) X known status (x, is) same = (known x, is
 
 -- a refusal
 module _ {A T : Type 0} (commands : Commands A T) (words : List (List ℕ)) (files : Option Files) (before now : List Name)
-    (out err : Change) (error : List ℕ) where
+    (out err : Change) (error : ℕ → List ℕ) where
+  -- the case of words of no command
+  abbrev own_usage : List ℕ
+  own_usage = usage_line commands.asking.tool
+
+  usage_known : (told : Option Files) → commands.asking.reading words ≡ None
+      → IfSome told (λ some. IsCase commands.asking words some (Refused 2 [] own_usage))
+  usage_known None none = tt
+  usage_known (Some some) none = no_command none
+
   refused_status : (refusal : Refusal) (status : ℕ) → IfSome files (λ told. RefusesCase (IsCase commands.asking words told) refusal)
       → RefusesShelf commands.may_read (commands.asking.reading words) before now refusal
-      → RefusalEnds err refusal status
+      → RefusalEndsOf commands.asking.tool err refusal status
       → ForCase commands.asking words files (λ case. Yields (status_of commands case) (Grew before now) (Fails out ⊎ Fails err) status)
-  refused_status refusal status known shelf (usage_told line) =
-      for_known commands.asking words files (Refused 2 [] usage_line)
-      (λ case. Yields (status_of commands case) (Grew before now) (Fails out ⊎ Fails err) 2) known due_status
-  refused_status refusal status known shelf (program_told {line} all) =
+  refused_status RefusedUsage status known shelf (whole all) =
+      for_known commands.asking words files (Refused 2 [] own_usage)
+      (λ case. Yields (status_of commands case) (Grew before now) (Fails out ⊎ Fails err) 2) (usage_known files shelf.0) due_status
+  refused_status (RefusedProgram line) status known shelf (whole all) =
       for_some commands words files Name (λ name. Refused 3 (name ∷ []) line)
       (λ case. Yields (status_of commands case) (Grew before now) (Fails out ⊎ Fails err) 3) known (λ name. due_status)
-  refused_status refusal status known shelf (input_told {line} all) =
+  refused_status (RefusedInput line) status known shelf (whole all) =
       for_some commands words files (List Name) (λ names. Refused 4 names line)
       (λ case. Yields (status_of commands case) (Grew before now) (Fails out ⊎ Fails err) 4) known (λ names. due_status)
-  refused_status refusal status known shelf (read_told {name} all) =
+  refused_status (ReadFault name) status known shelf (whole all) =
       for_each commands.asking words files (λ case. Yields (status_of commands case) (Grew before now) (Fails out ⊎ Fails err) 7)
       (λ case. read_fault shelf.1)
-  refused_status refusal status known shelf (refusal_no_memory taken) =
+  refused_status refusal status known shelf (line_no_memory part) =
       for_each commands.asking words files (λ case. Yields (status_of commands case) (Grew before now) (Fails out ⊎ Fails err) 1)
       (λ case. no_memory)
-  refused_status refusal status known shelf (refusal_failed fails taken) =
+  refused_status OutOfMemory status known shelf (whole all) =
+      for_each commands.asking words files (λ case. Yields (status_of commands case) (Grew before now) (Fails out ⊎ Fails err) 1)
+      (λ case. no_memory)
+  refused_status refusal status known shelf (line_failed part fails) =
       for_each commands.asking words files (λ case. Yields (status_of commands case) (Grew before now) (Fails out ⊎ Fails err) 8)
       (λ case. write_fault (inr fails))
 
   refused_line : (refusal : Refusal) (status : ℕ) → IfSome files (λ told. RefusesCase (IsCase commands.asking words told) refusal)
-      → RefusalEnds err refusal status
-      → ForCase commands.asking words files (λ case. HasCaseLine status → TakesAll err (due_of case []))
-  refused_line refusal status known (usage_told all) =
-      for_known commands.asking words files (Refused 2 [] usage_line) (λ case. HasCaseLine 2 → TakesAll err (due_of case [])) known (λ _. all)
-  refused_line refusal status known (program_told {line} all) =
+      → RefusesShelf commands.may_read (commands.asking.reading words) before now refusal
+      → RefusalEndsOf commands.asking.tool err refusal status
+      → ForCase commands.asking words files (λ case. HasCaseLine status → TakesAll err (due_of commands.asking.tool case []))
+  refused_line RefusedUsage status known shelf (whole all) =
+      for_known commands.asking words files (Refused 2 [] own_usage)
+      (λ case. HasCaseLine 2 → TakesAll err (due_of commands.asking.tool case []))
+      (usage_known files shelf.0) (λ _. all)
+  refused_line (RefusedProgram line) status known shelf (whole all) =
       for_some commands words files Name (λ name. Refused 3 (name ∷ []) line)
-      (λ case. HasCaseLine 3 → TakesAll err (due_of case [])) known (λ name _. all)
-  refused_line refusal status known (input_told {line} all) =
+      (λ case. HasCaseLine 3 → TakesAll err (due_of commands.asking.tool case [])) known (λ name _. all)
+  refused_line (RefusedInput line) status known shelf (whole all) =
       for_some commands words files (List Name) (λ names. Refused 4 names line)
-      (λ case. HasCaseLine 4 → TakesAll err (due_of case [])) known (λ names _. all)
-  refused_line refusal status known (read_told all) =
-      for_each commands.asking words files (λ case. HasCaseLine 7 → TakesAll err (due_of case [])) (λ case is. absurd (grind (arith, is)))
-  refused_line refusal status known (refusal_no_memory taken) =
-      for_each commands.asking words files (λ case. HasCaseLine 1 → TakesAll err (due_of case [])) (λ case is. absurd (grind (arith, is)))
-  refused_line refusal status known (refusal_failed fails taken) =
-      for_each commands.asking words files (λ case. HasCaseLine 8 → TakesAll err (due_of case [])) (λ case is. absurd (grind (arith, is)))
+      (λ case. HasCaseLine 4 → TakesAll err (due_of commands.asking.tool case [])) known (λ names _. all)
+  refused_line (ReadFault name) status known shelf (whole all) =
+      for_each commands.asking words files (λ case. HasCaseLine 7 → TakesAll err (due_of commands.asking.tool case []))
+      (λ case is. absurd (grind (arith, is)))
+  refused_line refusal status known shelf (line_no_memory part) =
+      for_each commands.asking words files (λ case. HasCaseLine 1 → TakesAll err (due_of commands.asking.tool case []))
+      (λ case is. absurd (grind (arith, is)))
+  refused_line OutOfMemory status known shelf (whole all) =
+      for_each commands.asking words files (λ case. HasCaseLine 1 → TakesAll err (due_of commands.asking.tool case []))
+      (λ case is. absurd (grind (arith, is)))
+  refused_line refusal status known shelf (line_failed part fails) =
+      for_each commands.asking words files (λ case. HasCaseLine 8 → TakesAll err (due_of commands.asking.tool case []))
+      (λ case is. absurd (grind (arith, is)))
 
   refused_told : (refusal : Refusal) (status : ℕ) → IfSome files (λ told. RefusesCase (IsCase commands.asking words told) refusal)
-      → RefusalEnds err refusal status → IsApart status ⊎ HasCaseLine status
+      → RefusesShelf commands.may_read (commands.asking.reading words) before now refusal
+      → RefusalEndsOf commands.asking.tool err refusal status → IsApart status ⊎ HasCaseLine status
       → IfSome files (λ told. (case : Case T) × IsCase commands.asking words told case × (status_of commands case ≡ status))
-  refused_told refusal status known (usage_told all) tells = told_case commands words files (Refused 2 [] usage_line) known
-  refused_told refusal status known (program_told {line} all) tells =
+  refused_told RefusedUsage status known shelf (whole all) tells =
+      told_case commands words files (Refused 2 [] own_usage) (usage_known files shelf.0)
+  refused_told (RefusedProgram line) status known shelf (whole all) tells =
       told_some commands words files Name (λ name. Refused 3 (name ∷ []) line) 3 known (λ name. refl)
-  refused_told refusal status known (input_told {line} all) tells =
+  refused_told (RefusedInput line) status known shelf (whole all) tells =
       told_some commands words files (List Name) (λ names. Refused 4 names line) 4 known (λ names. refl)
-  refused_told refusal status known (read_told all) tells = absurd (grind (arith, tells))
-  refused_told refusal status known (refusal_no_memory taken) tells = absurd (grind (arith, tells))
-  refused_told refusal status known (refusal_failed fails taken) tells = absurd (grind (arith, tells))
+  refused_told (ReadFault name) status known shelf (whole all) tells = absurd (grind (arith, tells))
+  refused_told refusal status known shelf (line_no_memory part) tells = absurd (grind (arith, tells))
+  refused_told OutOfMemory status known shelf (whole all) tells = absurd (grind (arith, tells))
+  refused_told refusal status known shelf (line_failed part fails) tells = absurd (grind (arith, tells))
 
   -- where a file that is read is not there
   refused_missing : (refusal : Refusal) (status : ℕ) → IfSome files (λ told. RefusesCase (IsCase commands.asking words told) refusal)
       → RefusesShelf commands.may_read (commands.asking.reading words) before now refusal
-      → RefusalEnds err refusal status
+      → RefusalEndsOf commands.asking.tool err refusal status
       → ForCase commands.asking words files (λ case. status_of commands case ≡ 7 → Grew before now ⊎ (status ≡ 1) ⊎ Fails err)
-  refused_missing refusal status known shelf (usage_told all) =
-      for_known commands.asking words files (Refused 2 [] usage_line) (λ case. status_of commands case ≡ 7 → Grew before now ⊎ ◌≡◌ {A = ℕ} 2 1 ⊎ Fails err) known
+  refused_missing RefusedUsage status known shelf (whole all) =
+      for_known commands.asking words files (Refused 2 [] own_usage)
+      (λ case. status_of commands case ≡ 7 → Grew before now ⊎ ◌≡◌ {A = ℕ} 2 1 ⊎ Fails err)
+      (usage_known files shelf.0)
       (λ is. absurd (omega (arith, is)))
-  refused_missing refusal status known shelf (program_told {line} all) =
+  refused_missing (RefusedProgram line) status known shelf (whole all) =
       for_some commands words files Name (λ name. Refused 3 (name ∷ []) line)
       (λ case. status_of commands case ≡ 7 → Grew before now ⊎ ◌≡◌ {A = ℕ} 3 1 ⊎ Fails err) known (λ name is. absurd (omega (arith, is)))
-  refused_missing refusal status known shelf (input_told {line} all) =
+  refused_missing (RefusedInput line) status known shelf (whole all) =
       for_some commands words files (List Name) (λ names. Refused 4 names line)
       (λ case. status_of commands case ≡ 7 → Grew before now ⊎ ◌≡◌ {A = ℕ} 4 1 ⊎ Fails err) known (λ names is. absurd (omega (arith, is)))
-  refused_missing refusal status known shelf (read_told all) =
+  refused_missing (ReadFault name) status known shelf (whole all) =
       for_each commands.asking words files (λ case. status_of commands case ≡ 7 → Grew before now ⊎ ◌≡◌ {A = ℕ} 7 1 ⊎ Fails err)
       (λ case missing. inl shelf.1)
-  refused_missing refusal status known shelf (refusal_no_memory taken) =
+  refused_missing refusal status known shelf (line_no_memory part) =
       for_each commands.asking words files (λ case. status_of commands case ≡ 7 → Grew before now ⊎ ◌≡◌ {A = ℕ} 1 1 ⊎ Fails err)
       (λ case missing. inr (inl refl))
-  refused_missing refusal status known shelf (refusal_failed fails taken) =
+  refused_missing OutOfMemory status known shelf (whole all) =
+      for_each commands.asking words files (λ case. status_of commands case ≡ 7 → Grew before now ⊎ ◌≡◌ {A = ℕ} 1 1 ⊎ Fails err)
+      (λ case missing. inr (inl refl))
+  refused_missing refusal status known shelf (line_failed part fails) =
       for_each commands.asking words files (λ case. status_of commands case ≡ 7 → Grew before now ⊎ ◌≡◌ {A = ℕ} 8 1 ⊎ Fails err)
       (λ case missing. inr (inr fails))
 
   -- a refusal whose line was not written whole
   abbrev Due : Case T → List ℕ → Type 0
-  Due case due = IsDue (Grew before now) case error due
+  Due case due = IsDue commands.asking.tool (Grew before now) case (error (status_of commands case)) due
 
-  refused_stop : (refusal : Refusal) → IfSome files (λ told. RefusesCase (IsCase commands.asking words told) refusal)
+  abbrev Stops : Case T → Type 0
+  Stops case = TakesStopLines commands.asking.tool (Due case) err
+
+  refused_part : (refusal : Refusal) → IfSome files (λ told. RefusesCase (IsCase commands.asking words told) refusal)
       → RefusesShelf commands.may_read (commands.asking.reading words) before now refusal
-      → TakesRefusal refusal err → ForCase commands.asking words files (λ case. TakesStopLines (Due case) err)
-  refused_stop refusal known shelf (line, inr for_stop, part) =
-      for_each commands.asking words files (λ case. TakesStopLines (Due case) err)
-      (λ case. stop_lines (Due case) err (due_of case error) line (inl refl) for_stop part)
-  refused_stop RefusedUsage known shelf (line, inl tells, part) =
-      for_known commands.asking words files (Refused 2 [] usage_line) (λ case. TakesStopLines (Due case) err) known
-      (due_lines (Due (Refused 2 [] usage_line)) err line (inl tells) part)
-  refused_stop (RefusedProgram told) known shelf (line, inl tells, part) =
-      for_some commands words files Name (λ name. Refused 3 (name ∷ []) told) (λ case. TakesStopLines (Due case) err) known
-      (λ name. due_lines (Due (Refused 3 (name ∷ []) told)) err line (inl tells) part)
-  refused_stop (RefusedInput told) known shelf (line, inl tells, part) =
-      for_some commands words files (List Name) (λ names. Refused 4 names told) (λ case. TakesStopLines (Due case) err) known
-      (λ names. due_lines (Due (Refused 4 names told)) err line (inl tells) part)
-  refused_stop (ReadFault name) known shelf (line, inl tells, part) = for_read files known
+      → TakesPart err (refusal_line commands.asking.tool refusal) → ForCase commands.asking words files Stops
+  refused_part RefusedUsage known shelf part =
+      for_known commands.asking words files (Refused 2 [] own_usage) Stops (usage_known files shelf.0)
+      (due_lines commands.asking.tool (Due (Refused 2 [] own_usage)) err (tool_line commands.asking.tool own_usage) (inl refl) part)
+  refused_part (RefusedProgram told) known shelf part =
+      for_some commands words files Name (λ name. Refused 3 (name ∷ []) told) Stops known
+      (λ name. due_lines commands.asking.tool (Due (Refused 3 (name ∷ []) told)) err (tool_line commands.asking.tool told) (inl refl) part)
+  refused_part (RefusedInput told) known shelf part =
+      for_some commands words files (List Name) (λ names. Refused 4 names told) Stops known
+      (λ names. due_lines commands.asking.tool (Due (Refused 4 names told)) err (tool_line commands.asking.tool told) (inl refl) part)
+  refused_part (ReadFault name) known shelf part = for_read files known
     where
       for_read : (files : Option Files)
           → IfSome files (λ told. (case : Case T) × IsCase commands.asking words told case × Contains (names_read case) name)
-          → ForCase commands.asking words files (λ case. TakesStopLines (Due case) err)
+          → ForCase commands.asking words files Stops
       for_read None is = tt
       for_read (Some files) (case, is, reads) =
-          for_known commands.asking words (Some files) case (λ c. TakesStopLines (Due c) err) is
-          (due_lines (Due case) err line (inr (shelf.1, name, reads, tells)) part)
-  refused_stop OutOfMemory known shelf (line, inl tells, part) = absurd tells
+          for_known commands.asking words (Some files) case Stops is
+          (due_lines commands.asking.tool (Due case) err (tool_line commands.asking.tool (read_fault_line name))
+          (inr (shelf.1, name, reads, refl)) part)
+  refused_part OutOfMemory known shelf part =
+      for_each commands.asking words files Stops
+      (λ case. stop_lines commands.asking.tool (Due case) err (due_of commands.asking.tool case (error (status_of commands case)))
+      (tool_line commands.asking.tool out_of_memory_line) (inl refl) (inl refl) part)
 
   refused_stopped : (refusal : Refusal) (status : ℕ) → IfSome files (λ told. RefusesCase (IsCase commands.asking words told) refusal)
       → RefusesShelf commands.may_read (commands.asking.reading words) before now refusal
-      → RefusalEnds err refusal status → IsStop status
-      → ForCase commands.asking words files (λ case. TakesStopLines (Due case) err)
-  refused_stopped refusal status known shelf (usage_told all) is = absurd (grind (arith, is))
-  refused_stopped refusal status known shelf (program_told all) is = absurd (grind (arith, is))
-  refused_stopped refusal status known shelf (input_told all) is = absurd (grind (arith, is))
-  refused_stopped refusal status known shelf (read_told all) is = absurd (grind (arith, is))
-  refused_stopped refusal status known shelf (refusal_no_memory taken) is = refused_stop refusal known shelf taken
-  refused_stopped refusal status known shelf (refusal_failed fails taken) is = refused_stop refusal known shelf taken
+      → RefusalEndsOf commands.asking.tool err refusal status → IsStop status
+      → ForCase commands.asking words files Stops
+  refused_stopped RefusedUsage status known shelf (whole all) is = absurd (grind (arith, is))
+  refused_stopped (RefusedProgram line) status known shelf (whole all) is = absurd (grind (arith, is))
+  refused_stopped (RefusedInput line) status known shelf (whole all) is = absurd (grind (arith, is))
+  refused_stopped (ReadFault name) status known shelf (whole all) is = absurd (grind (arith, is))
+  refused_stopped refusal status known shelf (line_no_memory part) is = refused_part refusal known shelf part
+  refused_stopped OutOfMemory status known shelf (whole all) is =
+      refused_part OutOfMemory known shelf (prefix_whole err.written err.written' (tool_line commands.asking.tool out_of_memory_line) all)
+  refused_stopped refusal status known shelf (line_failed part fails) is = refused_part refusal known shelf part
 
 -- a refusal has a status of its own, or that of a stop
-refused_among : (err : Change) (refusal : Refusal) (status : ℕ) → RefusalEnds err refusal status → IsRefusal status ⊎ IsStop status
-refused_among err refusal status (usage_told line) = inl (inl (inl refl))
-refused_among err refusal status (program_told all) = inl (inl (inr (inl refl)))
-refused_among err refusal status (input_told all) = inl (inl (inr (inr refl)))
-refused_among err refusal status (read_told all) = inl (inr refl)
-refused_among err refusal status (refusal_no_memory taken) = inr (inl refl)
-refused_among err refusal status (refusal_failed fails taken) = inr (inr refl)
+refused_among : (tool : Tool) (err : Change) (refusal : Refusal) (status : ℕ) → RefusalEndsOf tool err refusal status
+    → IsRefusal status ⊎ IsStop status
+refused_among tool err RefusedUsage status (whole all) = inl (inl (inl refl))
+refused_among tool err (RefusedProgram line) status (whole all) = inl (inl (inr (inl refl)))
+refused_among tool err (RefusedInput line) status (whole all) = inl (inl (inr (inr refl)))
+refused_among tool err (ReadFault name) status (whole all) = inl (inr refl)
+refused_among tool err refusal status (line_no_memory part) = inr (inl refl)
+refused_among tool err OutOfMemory status (whole all) = inr (inl refl)
+refused_among tool err refusal status (line_failed part fails) = inr (inr refl)
 
-refused_not_apart : (err : Change) (refusal : Refusal) (status : ℕ) → RefusalEnds err refusal status → IsApart status → ⊥
-refused_not_apart err refusal status (usage_told line) is = grind (arith, is)
-refused_not_apart err refusal status (program_told all) is = grind (arith, is)
-refused_not_apart err refusal status (input_told all) is = grind (arith, is)
-refused_not_apart err refusal status (read_told all) is = grind (arith, is)
-refused_not_apart err refusal status (refusal_no_memory taken) is = grind (arith, is)
-refused_not_apart err refusal status (refusal_failed fails taken) is = grind (arith, is)
+refused_not_apart : (tool : Tool) (err : Change) (refusal : Refusal) (status : ℕ) → RefusalEndsOf tool err refusal status → IsApart status
+    → ⊥
+refused_not_apart tool err RefusedUsage status (whole all) is = grind (arith, is)
+refused_not_apart tool err (RefusedProgram line) status (whole all) is = grind (arith, is)
+refused_not_apart tool err (RefusedInput line) status (whole all) is = grind (arith, is)
+refused_not_apart tool err (ReadFault name) status (whole all) is = grind (arith, is)
+refused_not_apart tool err refusal status (line_no_memory part) is = grind (arith, is)
+refused_not_apart tool err OutOfMemory status (whole all) is = grind (arith, is)
+refused_not_apart tool err refusal status (line_failed part fails) is = grind (arith, is)
 
 -- words of no command
-refused_words : (err : Change) (refusal : Refusal) (status : ℕ) → RefusesWords refusal → RefusalEnds err refusal status
+refused_words : (tool : Tool) (err : Change) (refusal : Refusal) (status : ℕ) → RefusesWords refusal → RefusalEndsOf tool err refusal status
     → Yields 2 ⊥ (Fails err) status
-refused_words err refusal status is (usage_told all) = due_status
-refused_words err refusal status is (program_told all) = absurd is
-refused_words err refusal status is (input_told all) = absurd is
-refused_words err refusal status is (read_told all) = absurd is
-refused_words err refusal status is (refusal_no_memory taken) = no_memory
-refused_words err refusal status is (refusal_failed fails taken) = write_fault fails
+refused_words tool err RefusedUsage status is (whole all) = due_status
+refused_words tool err (RefusedProgram line) status is (whole all) = absurd is
+refused_words tool err (RefusedInput line) status is (whole all) = absurd is
+refused_words tool err (ReadFault name) status is (whole all) = absurd is
+refused_words tool err refusal status is (line_no_memory part) = no_memory
+refused_words tool err OutOfMemory status is (whole all) = no_memory
+refused_words tool err refusal status is (line_failed part fails) = write_fault fails
 
-refused_fault : (out err : Change) (refusal : Refusal) (status : ℕ) → RefusalEnds err refusal status → status ≡ 8 → TellsWriteFault out err
-refused_fault out err refusal status (usage_told all) is = absurd (omega (arith, is))
-refused_fault out err refusal status (program_told all) is = absurd (omega (arith, is))
-refused_fault out err refusal status (input_told all) is = absurd (omega (arith, is))
-refused_fault out err refusal status (read_told all) is = absurd (omega (arith, is))
-refused_fault out err refusal status (refusal_no_memory taken) is = absurd (omega (arith, is))
-refused_fault out err refusal status (refusal_failed fails taken) is = inl fails
+refused_fault : (tool : Tool) (out err : Change) (refusal : Refusal) (status : ℕ) → RefusalEndsOf tool err refusal status → status ≡ 8
+    → TellsWriteFault tool out err
+refused_fault tool out err RefusedUsage status (whole all) is = absurd (omega (arith, is))
+refused_fault tool out err (RefusedProgram line) status (whole all) is = absurd (omega (arith, is))
+refused_fault tool out err (RefusedInput line) status (whole all) is = absurd (omega (arith, is))
+refused_fault tool out err (ReadFault name) status (whole all) is = absurd (omega (arith, is))
+refused_fault tool out err refusal status (line_no_memory part) is = absurd (omega (arith, is))
+refused_fault tool out err OutOfMemory status (whole all) is = absurd (omega (arith, is))
+refused_fault tool out err refusal status (line_failed part fails) is = inl fails
 
-module _ {A : Type 0} (may_read : A → Name → Type 0) (asked : Option A) (before now : List Name) (err : Change) where
-  refused_usage : (refusal : Refusal) (status : ℕ) → RefusesShelf may_read asked before now refusal → RefusalEnds err refusal status
+module _ {A : Type 0} (tool : Tool) (may_read : A → Name → Type 0) (asked : Option A) (before now : List Name) (err : Change) where
+  refused_usage : (refusal : Refusal) (status : ℕ) → RefusesShelf may_read asked before now refusal → RefusalEndsOf tool err refusal status
       → status ≡ 2 → asked ≡ None
-  refused_usage refusal status shelf (usage_told all) is = shelf.0
-  refused_usage refusal status shelf (program_told all) is = absurd (omega (arith, is))
-  refused_usage refusal status shelf (input_told all) is = absurd (omega (arith, is))
-  refused_usage refusal status shelf (read_told all) is = absurd (omega (arith, is))
-  refused_usage refusal status shelf (refusal_no_memory taken) is = absurd (omega (arith, is))
-  refused_usage refusal status shelf (refusal_failed fails taken) is = absurd (omega (arith, is))
+  refused_usage RefusedUsage status shelf (whole all) is = shelf.0
+  refused_usage (RefusedProgram line) status shelf (whole all) is = absurd (omega (arith, is))
+  refused_usage (RefusedInput line) status shelf (whole all) is = absurd (omega (arith, is))
+  refused_usage (ReadFault name) status shelf (whole all) is = absurd (omega (arith, is))
+  refused_usage refusal status shelf (line_no_memory part) is = absurd (omega (arith, is))
+  refused_usage OutOfMemory status shelf (whole all) is = absurd (omega (arith, is))
+  refused_usage refusal status shelf (line_failed part fails) is = absurd (omega (arith, is))
 
   -- the shelf at a status that tells the case
-  refused_untouched : (refusal : Refusal) (status : ℕ) → RefusesShelf may_read asked before now refusal → RefusalEnds err refusal status
+  refused_untouched : (refusal : Refusal) (status : ℕ) → RefusesShelf may_read asked before now refusal
+      → RefusalEndsOf tool err refusal status
       → IsApart status ⊎ HasCaseLine status → now ≡ before
-  refused_untouched refusal status shelf (usage_told all) tells = shelf.1
-  refused_untouched refusal status shelf (program_told all) tells = shelf
-  refused_untouched refusal status shelf (input_told all) tells = shelf
-  refused_untouched refusal status shelf (read_told all) tells = absurd (grind (arith, tells))
-  refused_untouched refusal status shelf (refusal_no_memory taken) tells = absurd (grind (arith, tells))
-  refused_untouched refusal status shelf (refusal_failed fails taken) tells = absurd (grind (arith, tells))
+  refused_untouched RefusedUsage status shelf (whole all) tells = shelf.1
+  refused_untouched (RefusedProgram line) status shelf (whole all) tells = shelf
+  refused_untouched (RefusedInput line) status shelf (whole all) tells = shelf
+  refused_untouched (ReadFault name) status shelf (whole all) tells = absurd (grind (arith, tells))
+  refused_untouched refusal status shelf (line_no_memory part) tells = absurd (grind (arith, tells))
+  refused_untouched OutOfMemory status shelf (whole all) tells = absurd (grind (arith, tells))
+  refused_untouched refusal status shelf (line_failed part fails) tells = absurd (grind (arith, tells))
 
 module _ {A T : Type 0} (commands : Commands A T) where
   -- the case reads a file whose read failed
@@ -611,8 +676,9 @@ module _ {A T : Type 0} (commands : Commands A T) where
   refused_read : (words : List (List ℕ)) (files : Option Files) (failed failed' : List Name) (out err : Change) (refusal : Refusal)
       (status : ℕ) (journal : Journal)
       → IfSome files (λ told. RefusesCase (IsCase commands.asking words told) refusal)
-      → RefusesShelf commands.may_read (commands.asking.reading words) failed failed' refusal → RefusalEnds err refusal status → status ≡ 7
-      → TellsReadFault commands (record {
+      → RefusesShelf commands.may_read (commands.asking.reading words) failed failed' refusal
+      → RefusalEndsOf commands.asking.tool err refusal status → status ≡ 7
+      → TellsReadFault commands.asking commands.may_read (record {
         words = words;
         files = files;
         failed = failed;
@@ -622,14 +688,17 @@ module _ {A T : Type 0} (commands : Commands A T) where
         status = status;
         journal = journal;
       })
-  refused_read words files failed failed' out err refusal status journal known shelf (usage_told all) is = absurd (omega (arith, is))
-  refused_read words files failed failed' out err refusal status journal known shelf (program_told all) is = absurd (omega (arith, is))
-  refused_read words files failed failed' out err refusal status journal known shelf (input_told all) is = absurd (omega (arith, is))
-  refused_read words files failed failed' out err refusal status journal known shelf (read_told {name} all) is =
-      record { name = name; read = reads_failed words files name known; asked = shelf.2; alone = shelf.0; grew = shelf.1; line = all }
-  refused_read words files failed failed' out err refusal status journal known shelf (refusal_no_memory taken) is =
+  refused_read words files failed failed' out err RefusedUsage status journal known shelf (whole all) is = absurd (omega (arith, is))
+  refused_read words files failed failed' out err (RefusedProgram line) status journal known shelf (whole all) is =
       absurd (omega (arith, is))
-  refused_read words files failed failed' out err refusal status journal known shelf (refusal_failed fails taken) is =
+  refused_read words files failed failed' out err (RefusedInput line) status journal known shelf (whole all) is = absurd (omega (arith, is))
+  refused_read words files failed failed' out err (ReadFault name) status journal known shelf (whole all) is =
+      record { name = name; read = reads_failed words files name known; asked = shelf.2; alone = shelf.0; grew = shelf.1; line = all }
+  refused_read words files failed failed' out err refusal status journal known shelf (line_no_memory part) is =
+      absurd (omega (arith, is))
+  refused_read words files failed failed' out err OutOfMemory status journal known shelf (whole all) is =
+      absurd (omega (arith, is))
+  refused_read words files failed failed' out err refusal status journal known shelf (line_failed part fails) is =
       absurd (omega (arith, is))
 
   -- a status that tells the case is that of a whole end or of a line
@@ -649,19 +718,21 @@ module _ {A T : Type 0} (commands : Commands A T) where
   empty_retired sound (Go names work) journal written faults empty = λ is. sound.unbegun work journal written faults empty
 
   -- where a log is kept, a refusal tells what it tells where none is, with nothing else due
-  refused_write : (log : MayLog T) (call : Call) → TellsWriteFault call.out call.err → TellsWrite commands call log
+  refused_write : (log : MayLog T) (call : Call) → TellsWriteFault commands.asking.tool call.out call.err → TellsWrite commands call log
   refused_write Unlogged call tells = tells
   refused_write (Logged log) call (inl fails) = inr fails
   refused_write (Logged log) call (inr (fails, told)) = inl fails
 
   refused_tells : (log : MayLog T) (call : Call) → IsUntouched call.out → IsEmpty call.journal
-      → ((error : List ℕ) → ForCase commands.asking call.words call.files
-      (λ case. TakesStopLines (IsDue (Grew call.failed call.failed') case error) call.err))
+      → ((error : ℕ → List ℕ) → ForCase commands.asking call.words call.files (λ case. TakesStopLines commands.asking.tool
+      (IsDue commands.asking.tool (Grew call.failed call.failed') case (error (status_of commands case))) call.err))
       → ForCase commands.asking call.words call.files (TellsStop commands call log)
-  refused_tells Unlogged call untouched empty tells = tells (error_for commands (commands.asking.reading call.words) call.journal)
+  refused_tells Unlogged call untouched empty tells =
+      tells (λ status. error_for commands (commands.asking.reading call.words) status call.journal)
   refused_tells (Logged log) call untouched empty tells =
-      for_map commands.asking call.words call.files (λ case. TakesStopLines (IsDue (Grew call.failed call.failed') case []) call.err)
-      (TellsStop commands call (Logged log)) (λ case stops. inl (untouched, empty, stops)) (tells [])
+      for_map commands.asking call.words call.files
+      (λ case. TakesStopLines commands.asking.tool (IsDue commands.asking.tool (Grew call.failed call.failed') case []) call.err)
+      (TellsStop commands call (Logged log)) (λ case stops. inl (untouched, empty, stops)) (tells (λ status. []))
 
 -- a refusal meets what holds by the case
 refused_meets : {A T : Type 0} (commands : Commands A T) (sound : AreSound commands) (words : List (List ℕ)) (files : Option Files)
@@ -669,7 +740,7 @@ refused_meets : {A T : Type 0} (commands : Commands A T) (sound : AreSound comma
     (journal : Journal) (refusal : Refusal)
     → IfSome files (λ told. RefusesCase (IsCase commands.asking words told) refusal)
     → RefusesShelf commands.may_read (commands.asking.reading words) failed failed' refusal → IsEmpty journal
-    → RefusalEnds err refusal status
+    → RefusalEndsOf commands.asking.tool err refusal status
     → ForCase commands.asking words files (MeetsCase commands (record {
       words = words;
       files = files;
@@ -695,16 +766,17 @@ refused_meets commands sound words (Some files) failed failed' written faults er
       status = status;
       journal = journal;
     } in
-    let not_whole : commands.whole status → ⊥ = λ is. refused_not_apart err refusal status ends (sound.apart status is) in
+    let not_whole : commands.whole status → ⊥ =
+    λ is. refused_not_apart commands.asking.tool err refusal status ends (sound.apart status is) in
     record {
-      status = refused_status commands words (Some files) failed failed' out err [] refusal status known shelf ends case is;
+      status = refused_status commands words (Some files) failed failed' out err (λ s. []) refusal status known shelf ends case is;
       text = λ is_whole. absurd (not_whole is_whole);
       prefix = prefix_none written (text_of commands case);
-      line = refused_line commands words (Some files) failed failed' out err [] refusal status known ends case is;
+      line = refused_line commands words (Some files) failed failed' out err (λ s. []) refusal status known shelf ends case is;
       stopped =
           λ stop. refused_tells commands commands.log call (record { written = refl; faults = refl }) empty
           (λ error. refused_stopped commands words (Some files) failed failed' out err error refusal status known shelf ends stop) case is;
-      missing = refused_missing commands words (Some files) failed failed' out err [] refusal status known shelf ends case is;
+      missing = refused_missing commands words (Some files) failed failed' out err (λ s. []) refusal status known shelf ends case is;
       unbegun = inr empty;
       lawful = empty_lawful commands sound case journal empty;
       complete = λ is_whole. absurd (not_whole is_whole);
@@ -719,7 +791,7 @@ pub refused_headline : {A T : Type 0} (commands : Commands A T) (sound : AreSoun
     → (ReadsNothing commands (commands.asking.reading words) → failed' ≡ failed)
     → IfSome files (λ told. RefusesCase (IsCase commands.asking words told) refusal)
     → RefusesShelf commands.may_read (commands.asking.reading words) failed failed' refusal → IsEmpty journal
-    → RefusalEnds err refusal status
+    → RefusalEndsOf commands.asking.tool err refusal status
     → Headline commands (record {
       words = words;
       files = files;
@@ -730,7 +802,7 @@ pub refused_headline : {A T : Type 0} (commands : Commands A T) (sound : AreSoun
       status = status;
       journal = journal;
     })
-refused_headline commands sound words files failed failed' written faults err status journal refusal no_command unread
+refused_headline commands sound words files failed failed' written faults err status journal refusal untold unread
     known shelf empty ends =
     let out : Change = unwritten written faults in
     let call : Call =
@@ -744,22 +816,25 @@ refused_headline commands sound words files failed failed' written faults err st
       status = status;
       journal = journal;
     } in
-    let not_whole : commands.whole status → ⊥ = λ is. refused_not_apart err refusal status ends (sound.apart status is) in
+    let not_whole : commands.whole status → ⊥ =
+    λ is. refused_not_apart commands.asking.tool err refusal status ends (sound.apart status is) in
     record {
       by_case =
           refused_meets commands sound words files failed failed' written faults err status journal refusal known shelf empty ends;
       told =
-          λ tells. refused_told commands words files failed failed' out err [] refusal status known ends
+          λ tells. refused_told commands words files failed failed' out err (λ s. []) refusal status known shelf ends
           (tells_apart commands sound status tells);
-      among = inr (refused_among err refusal status ends);
-      usage = refused_usage commands.may_read (commands.asking.reading words) failed failed' err refusal status shelf ends;
-      no_command = λ none. refused_words err refusal status (no_command none) ends;
+      among = inr (refused_among commands.asking.tool err refusal status ends);
+      usage =
+          refused_usage commands.asking.tool commands.may_read (commands.asking.reading words) failed failed' err refusal status shelf ends;
+      no_command = λ none. refused_words commands.asking.tool err refusal status (untold none) ends;
       refused = λ is. Keeps-same written;
       quiet = λ is. absurd (not_whole is);
       read_fault = refused_read commands words files failed failed' out err refusal status journal known shelf ends;
-      write_fault = λ is. refused_write commands commands.log call (refused_fault out err refusal status ends is);
+      write_fault = λ is. refused_write commands commands.log call (refused_fault commands.asking.tool out err refusal status ends is);
       untouched =
-          λ tells. refused_untouched commands.may_read (commands.asking.reading words) failed failed' err refusal status shelf ends
+          λ tells. refused_untouched commands.asking.tool commands.may_read
+          (commands.asking.reading words) failed failed' err refusal status shelf ends
           (tells_apart commands sound status tells);
       unread = unread;
       journal = λ unbegun. empty;

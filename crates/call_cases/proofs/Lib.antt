@@ -8,7 +8,6 @@ pub mod Loads
 pub mod OneCase
 pub mod Readable
 pub mod ReadsProgram
-pub mod RefusalLines
 pub mod Refused
 pub mod RunSound
 pub mod Sizes

@@ -1,5 +1,5 @@
 -- How a refusal, as any top call reads one, stands to the case of the call, and how it ends.
-use Rattle.std.specs.Prelude.{◌≡◌, ◌⊎◌, ◌<◌, ◌≤◌, List, [], ◌∷◌, ℕ, length, Option, Some, None, Result, IsSomeAnd, Contains, ⊤}
+use Rattle.std.specs.Prelude.{◌≡◌, ◌<◌, ◌≤◌, List, [], ◌∷◌, ℕ, length, Option, Some, None, Result, IsSomeAnd, Contains, ⊤}
 use Rattle.std.specs.declared.result.Result.TheVariants.{Ok, Err}
 use Rattle.gp_base.specs.meaning.Files.{GrowsByOnly}
 use Rattle.gp_base.specs.declared.limits.TheConstants.{MOST_FILE_BYTES}
@@ -8,12 +8,15 @@ use Rattle.call_cases.specs.declared.reading.Refusal.{Refusal}
 use Rattle.call_cases.specs.declared.reading.Refusal.TheVariants.{Usage as RefusedUsage, BadProgram as RefusedProgram, BadInput as RefusedInput, ReadFault, OutOfMemory}
 use Rattle.call_cases.specs.meaning.Work.{Case, Refused}
 use Rattle.call_cases.specs.meaning.Case.{names_read}
-use Rattle.call_cases.specs.meaning.Lines.{usage_line, read_fault_line, input_line}
-use Rattle.call_cases.specs.meaning.Answers.{Change, TakesAll, TakesPart, Fails, Grew, IsStopLine}
+use Rattle.call_cases.specs.declared.lines.Tool.{Tool}
+use Rattle.call_cases.specs.declared.lines.Tool.TheVariants.{Gprs}
+use Rattle.call_cases.specs.meaning.Lines.{tool_line, usage_line, read_fault_line, out_of_memory_line, input_line}
+use Rattle.call_cases.specs.meaning.Answers.{Change, Grew}
+use Rattle.call_cases.specs.Answers.{LineEnds}
 
 -- a refusal tells this case; a fault of reading tells that the case reads the file
 abbrev pub RefusesCase : {T : Type 0} → (Case T → Type 0) → Refusal → Type 0
-RefusesCase Is RefusedUsage = Is (Refused 2 [] usage_line)
+RefusesCase Is RefusedUsage = (line : List ℕ) × Is (Refused 2 [] line)
 RefusesCase Is (RefusedProgram line) = (name : Name) × Is (Refused 3 (name ∷ []) line)
 RefusesCase Is (RefusedInput line) = (names : List Name) × Is (Refused 4 names line)
 RefusesCase {T} Is (ReadFault name) = (case : Case T) × Is case × Contains (names_read case) name
@@ -79,23 +82,24 @@ AnswersFile name bytes (Err (ReadFault told)) = ⊤
 AnswersFile name bytes (Err OutOfMemory) = ⊤
 AnswersFile name bytes (Err refusal) = ⊥
 
--- the line that tells a refusal
-abbrev pub TellsRefusal : Refusal → List ℕ → Type 0
-TellsRefusal RefusedUsage line = line ≡ usage_line
-TellsRefusal (RefusedProgram told) line = line ≡ told
-TellsRefusal (RefusedInput told) line = line ≡ told
-TellsRefusal (ReadFault name) line = line ≡ read_fault_line name
-TellsRefusal OutOfMemory line = ⊥
+-- the line that tells a refusal, and the status of it
+abbrev pub refusal_line : Tool → Refusal → List ℕ
+refusal_line tool RefusedUsage = tool_line tool (usage_line tool)
+refusal_line tool (RefusedProgram line) = tool_line tool line
+refusal_line tool (RefusedInput line) = tool_line tool line
+refusal_line tool (ReadFault name) = tool_line tool (read_fault_line name)
+refusal_line tool OutOfMemory = tool_line tool out_of_memory_line
 
--- the error stream took a prefix of that line, or of the line that tells why it was not written
-abbrev pub TakesRefusal : Refusal → Change → Type 0
-TakesRefusal refusal err = (line : List ℕ) × (TellsRefusal refusal line ⊎ IsStopLine line) × TakesPart err line
+abbrev pub refusal_status : Refusal → ℕ
+refusal_status RefusedUsage = 2
+refusal_status (RefusedProgram line) = 3
+refusal_status (RefusedInput line) = 4
+refusal_status (ReadFault name) = 7
+refusal_status OutOfMemory = 1
 
--- how a refusal ends
-pub data RefusalEnds (err : Change) : Refusal → ℕ → Type 0 where
-  usage_told : TakesAll err usage_line → RefusalEnds err RefusedUsage 2
-  program_told : {line : List ℕ} → TakesAll err line → RefusalEnds err (RefusedProgram line) 3
-  input_told : {line : List ℕ} → TakesAll err line → RefusalEnds err (RefusedInput line) 4
-  read_told : {name : Name} → TakesAll err (read_fault_line name) → RefusalEnds err (ReadFault name) 7
-  refusal_no_memory : {refusal : Refusal} → TakesRefusal refusal err → RefusalEnds err refusal 1
-  refusal_failed : {refusal : Refusal} → Fails err → TakesRefusal refusal err → RefusalEnds err refusal 8
+-- how a refusal ends, and how one of `gprs` does
+abbrev pub RefusalEndsOf : Tool → (err : Change) → Refusal → ℕ → Type 0
+RefusalEndsOf tool err refusal status = LineEnds (refusal_status refusal) (refusal_line tool refusal) err status
+
+abbrev pub RefusalEnds : (err : Change) → Refusal → ℕ → Type 0
+RefusalEnds = RefusalEndsOf Gprs

@@ -2,10 +2,10 @@
 ghost use Rattle.std.specs.Prelude.{◌≡◌, ℕ, List, []};
 ghost use Rattle.call_cases.specs.meaning.Answers.{Change, IsEmpty, change_of};
 ghost use Rattle.call_cases.specs.Answers.{PutFor, RunEnds, StopsBy};
-ghost use Rattle.call_cases.specs.Refusals.{RefusalEnds};
+ghost use Rattle.call_cases.specs.Refusals.{RefusalEnds, RefusalEndsOf};
 ghost use Rattle.call_cases.specs.meaning.RunCommands.{end_status};
 
-use crate::lines::{OUT_OF_MEMORY, USAGE, WRITE_FAULT, end_with, read_fault_line};
+use crate::lines::{OUT_OF_MEMORY, Tool, WRITE_FAULT, tell_about, tell_line};
 use crate::reading::Refusal;
 use gp_base::{End, Journal, Seq, Sink, SinkFault};
 use std::alloc::Global;
@@ -40,44 +40,41 @@ pub fn end_status(end: End) -> u8
 
 /// Tells why there is nothing to do, and answers the status. It is 8 where the write of that line fails, and 1 where
 /// memory runs out.
-pub fn refuse<E: Sink>(alloc: Global, refusal: Refusal, err: &mut E) -> u8
-    ensures { RefusalEnds (change_of E.written E.faults err.old err.new) refusal result }
+pub fn refuse<E: Sink>(tool: Tool, refusal: &Refusal, err: &mut E) -> u8
+    ensures { RefusalEndsOf tool (change_of E.written E.faults err.old err.new) refusal.now result }
 {
     match refusal {
-        Refusal::Usage => end_with(err, USAGE, 2),
-        Refusal::BadProgram(line) => end_with(err, line.as_slice(), 3),
-        Refusal::BadInput(line) => end_with(err, line.as_slice(), 4),
-        Refusal::ReadFault(name) => match read_fault_line(alloc, &name) {
-            Ok(line) => end_with(err, &line, 7),
-            Err(_) => end_with(err, OUT_OF_MEMORY, 1),
-        },
-        Refusal::OutOfMemory => end_with(err, OUT_OF_MEMORY, 1),
+        Refusal::Usage => tell_line(tool, err, tool.usage(), 2),
+        Refusal::BadProgram(line) => tell_line(tool, err, line.as_slice(), 3),
+        Refusal::BadInput(line) => tell_line(tool, err, line.as_slice(), 4),
+        Refusal::ReadFault(name) => tell_about(tool, err, b"read fault ", name.as_slice(), 7),
+        Refusal::OutOfMemory => tell_line(tool, err, OUT_OF_MEMORY, 1),
     }
 }
 
-/// How a call ended that had nothing to do: `err` took the line that tells why, and there is no journal.
+/// How a call of `gprs` ended that had nothing to do: `err` took the line that tells why, and there is no journal.
 pub fn refused_outcome<E: Sink>(alloc: Global, refusal: Refusal, err: &mut E) -> Outcome
     ensures ends { RefusalEnds (change_of E.written E.faults err.old err.new) refusal result.status }
     ensures empty { IsEmpty result.journal }
 {
-    let status = refuse(alloc, refusal, err);
+    let status = refuse(Tool::Gprs, &refusal, err);
     Outcome {
         status,
         journal: empty_journal(alloc),
     }
 }
 
-// Tells why a write stopped, and answers the status of that.
-fn stop_by<E: Sink>(err: &mut E, fault: SinkFault) -> u8
-    ensures { StopsBy fault (change_of E.written E.faults err.old err.new) result }
+/// Tells why a write stopped, and answers the status of that.
+pub fn stop_by<E: Sink>(tool: Tool, fault: SinkFault, err: &mut E) -> u8
+    ensures { StopsBy tool fault (change_of E.written E.faults err.old err.new) result }
 {
     match fault {
-        SinkFault::Failed => end_with(err, WRITE_FAULT, 8),
-        SinkFault::OutOfMemory => end_with(err, OUT_OF_MEMORY, 1),
+        SinkFault::Failed => tell_line(tool, err, WRITE_FAULT, 8),
+        SinkFault::OutOfMemory => tell_line(tool, err, OUT_OF_MEMORY, 1),
     }
 }
 
-/// How a call ended that runs over no journal, by the answer to the write of its text: the status, or why the write
+/// How a call of `gprs` ended that runs over no journal, by the answer to the write of its text: the status, or why the write
 /// stopped. Then `err` took the line that tells it.
 pub fn plain_outcome<E: Sink>(alloc: Global, put: Result<u8, SinkFault>, err: &mut E) -> Outcome
     ensures ends { (text : List ℕ) (due : ℕ) (out : Change) → PutFor text due out put → RunEnds text [] due out (change_of E.written E.faults err.old err.new) result.status }
@@ -89,7 +86,7 @@ pub fn plain_outcome<E: Sink>(alloc: Global, put: Result<u8, SinkFault>, err: &m
             journal: empty_journal(alloc),
         },
         Err(fault) => {
-            let status = stop_by(err, fault);
+            let status = stop_by(Tool::Gprs, fault, err);
             Outcome {
                 status,
                 journal: empty_journal(alloc),

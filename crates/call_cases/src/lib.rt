@@ -13,9 +13,11 @@ mod work;
 
 pub use agreed::Reading;
 pub use cases::{one_case, some_case};
-pub use endings::{Outcome, empty_journal, end_status, plain_outcome, refuse, refused_outcome};
+pub use endings::{
+    Outcome, empty_journal, end_status, plain_outcome, refuse, refused_outcome, stop_by,
+};
 pub use feeds::copied_feeds;
 pub use inputs::{read_file, refused_input};
-pub use lines::{OUT_OF_MEMORY, WRITE_FAULT, end_with};
+pub use lines::{OUT_OF_MEMORY, Tool, WRITE_FAULT, end_with, tell_about, tell_line};
 pub use reading::{Refusal, read_asked, read_beside, read_for, read_program, read_request};
 pub use work::{Request, runs};

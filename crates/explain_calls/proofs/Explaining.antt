@@ -11,28 +11,38 @@ use Rattle.command_line.specs.declared.asked.Asked.{Asked}
 use Rattle.call_cases.specs.declared.reading.Refusal.{Refusal}
 use Rattle.call_cases.specs.declared.reading.Refusal.TheVariants.{Usage as RefusedUsage, BadProgram as RefusedProgram, BadInput as RefusedInput, ReadFault, OutOfMemory}
 use Rattle.call_cases.specs.meaning.Work.{Files, ToDo, Case, Refused, Go}
-use Rattle.call_cases.specs.meaning.RunCommands.{IsWhole, end_status}
+use Rattle.call_cases.specs.declared.lines.Tool.TheVariants.{GprsView}
+use Rattle.call_cases.specs.meaning.RunCommands.{MayRead, IsWhole, end_status}
 use Rattle.call_cases.specs.meaning.PlainText.{plain_ran}
-use Rattle.call_cases.specs.meaning.Case.{IsCase, ForCase, names_read}
-use Rattle.call_cases.specs.meaning.Lines as gprs
-use Rattle.call_cases.specs.Refusals.{RefusesCase, RefusesWords}
-use Rattle.call_cases.specs.meaning.Answers.{Change, TakesAll, TakesPart, Fails, Grew, Yields, due_status, no_memory, read_fault, write_fault}
-use Rattle.call_cases.specs.meaning.Headline.{HasCaseLine, IsStop}
+use Rattle.call_cases.specs.meaning.Case.{IsCase, no_command, ForCase, names_read, due_of}
+use Rattle.call_cases.specs.meaning.Lines.{tool_line, usage_line, read_fault_line, out_of_memory_line}
+use Rattle.call_cases.specs.Refusals.{RefusesCase, RefusesWords, refusal_line, refusal_status}
+use Rattle.call_cases.specs.meaning.Answers.{Change, no_journal, TakesAll, TakesPart, Fails, Grew, Yields, due_status, no_memory, read_fault, write_fault}
+use Rattle.call_cases.specs.meaning.Headline.{Call, HasCaseLine, IsStop, TellsReadFault}
 use Rattle.call_cases.proofs.OneCase.{for_known, for_each}
-use Rattle.view_calls.specs.Lines.{refusal_line, refusal_status}
-use Rattle.view_calls.specs.meaning.Lines.{read_fault_line, out_of_memory_line, write_fault_line, under_own_name, usage_line}
-use Rattle.view_calls.specs.meaning.Shows.{View, FailsToRead, IsLine}
-use Rattle.explain_calls.specs.meaning.Commands.{explained_by, asking, case_status, case_line}
+use Rattle.explain_calls.specs.meaning.Commands.{explained_by, asking, case_status}
 use Rattle.explain_calls.specs.meaning.Fronts.{IsHint, IsText}
-use Rattle.explain_calls.specs.meaning.Explains.{IsExplained, IsOwnText, Explains}
+use Rattle.explain_calls.specs.meaning.Explains.{IsExplained, IsOwnText, IsOwnLine, Explains}
 use Rattle.explain_calls.specs.Endings.{TellEnds, RunTold, TextFor, LeavesShelf}
 use Rattle.explain_calls.proofs.Outcomes.{IsOwn, WriteFails, Outcome, done, failed, short, outcome, outcome_part, none_part}
 use Rattle.explain_calls.proofs.OwnCases.{some_text}
 
 module _ (words : List (List ℕ)) (files : Option Files) (before now : List Name) (out err : Change) where
-  abbrev view : ℕ → View
-  view status =
-      record { words = words; files = files; failed = before; failed' = now; out = out; err = err; status = status }
+  abbrev call : ℕ → Call
+  call status = record {
+    words = words;
+    files = files;
+    failed = before;
+    failed' = now;
+    out = out;
+    err = err;
+    status = status;
+    journal = no_journal;
+  }
+
+  -- the line of a case
+  abbrev case_line : Case ToDo → List ℕ
+  case_line case = due_of GprsView case []
 
   abbrev For : (Case ToDo → Type 0) → Type 0
   For P = ForCase asking words files P
@@ -63,10 +73,9 @@ module _ (words : List (List ℕ)) (files : Option Files) (before now : List Nam
         go None one = tt
         go (Some some) (x, one) = (known x, one, same x)
 
-  line_of : (own line l : List ℕ) (read : List Name) → own ≡ line → IsOwn line l → IsLine (Grew before now) own read l
-  line_of own line l read same (inl is) = inl (is ∙ sym same)
-  line_of own line l read same (inr (inl is)) = inr (inl is)
-  line_of own line l read same (inr (inr is)) = inr (inr (inl is))
+  line_of : (status : ℕ) (case : Case ToDo) (line l : List ℕ) → case_line case ≡ line → IsOwn line l → IsOwnLine (call status) case l
+  line_of status case line l same (inl is) = inl (inl (is ∙ sym same))
+  line_of status case line l same (inr is) = inr is
 
   -- what is told is that of a case that is known
   module _ (X : Type 0) (known : X → Case ToDo) (text : List ℕ) (due : ℕ) (line : List ℕ)
@@ -140,14 +149,14 @@ module _ (words : List (List ℕ)) (files : Option Files) (before now : List Nam
     known_write status (short part l own taken) eight = absurd (omega (arith, eight))
 
     abbrev Stopped : Case ToDo → Type 0
-    Stopped case = (l : List ℕ) × IsLine (Grew before now) (case_line case) (names_read case) l × TakesPart err l
+    Stopped case = (l : List ℕ) × IsOwnLine (call due) case l × TakesPart err l
 
     known_stopped : (status : ℕ) → Outcome text due line out err status → IsStop status → For Stopped
     known_stopped status (done all taken) stop = absurd (grind (arith, tells, stop))
     known_stopped status (failed part l own taken fails) stop =
-        for_one X known Stopped is (λ x. (l, line_of (case_line (known x)) line l (names_read (known x)) (lines x) own, taken))
+        for_one X known Stopped is (λ x. (l, line_of due (known x) line l (lines x) own, taken))
     known_stopped status (short part l own taken) stop =
-        for_one X known Stopped is (λ x. (l, line_of (case_line (known x)) line l (names_read (known x)) (lines x) own, taken))
+        for_one X known Stopped is (λ x. (l, line_of due (known x) line l (lines x) own, taken))
 
     known_kept : (IsWhole due ⊎ (due ≡ 3) → now ≡ before) → (status : ℕ) → Outcome text due line out err status
         → IsWhole status ⊎ (status ≡ 3) → now ≡ before
@@ -157,7 +166,7 @@ module _ (words : List (List ℕ)) (files : Option Files) (before now : List Nam
 
     explains_known : (due ≡ 2 → explained_by words ≡ None) → (explained_by words ≡ None → due ≡ 2) → (IsWhole due → line ≡ [])
         → (IsWhole due ⊎ (due ≡ 3) → now ≡ before) → (explained_by words ≡ None → now ≡ before) → (status : ℕ)
-        → Outcome text due line out err status → Explains (view status)
+        → Outcome text due line out err status → Explains (call status)
     explains_known usage two none kept unread status ends =
         record {
           status = known_status status ends;
@@ -166,7 +175,7 @@ module _ (words : List (List ℕ)) (files : Option Files) (before now : List Nam
           usage = known_usage usage status ends;
           no_command = known_none two status ends;
           text = known_text status ends;
-          prefix = for_one X known (λ case. (told : List ℕ) × IsOwnText (view status) case told × TakesPart out told) is
+          prefix = for_one X known (λ case. (told : List ℕ) × IsOwnText (call status) case told × TakesPart out told) is
               (λ x. (text, inl (texts x), outcome_part text due line out err status ends));
           quiet = known_quiet none status ends;
           line = known_line status ends;
@@ -180,10 +189,9 @@ module _ (words : List (List ℕ)) (files : Option Files) (before now : List Nam
   -- a file could not be read, or memory is out: the case is not told
   module _ (text : List ℕ) (due : ℕ) (line : List ℕ) (yields : (case : Case ToDo) → Yields (case_status case) (Grew before now) Faults due)
       (apart : (due ≡ 7) ⊎ (due ≡ 1)) (none : explained_by words ≡ None → Yields 2 ⊥ Faults due)
-      (reads : (status : ℕ) → due ≡ 7 → (name : Name) × FailsToRead asking (view status) name × (line ≡ read_fault_line name)
-      × IsHint text)
-      (texts : (status : ℕ) → TakesPart out text → For (λ case. (told : List ℕ) × IsOwnText (view status) case told × TakesPart out told))
-      (lines : For (λ case. IsLine (Grew before now) (case_line case) (names_read case) line)) where
+      (reads : (status : ℕ) → due ≡ 7 → (TakesAll err line → TellsReadFault asking MayRead (call status)) × IsHint text)
+      (texts : (status : ℕ) → TakesPart out text → For (λ case. (told : List ℕ) × IsOwnText (call status) case told × TakesPart out told))
+      (lines : For (λ case. IsOwnLine (call due) case line)) where
     other_status : (status : ℕ) → Outcome text due line out err status
         → For (λ case. Yields (case_status case) (Grew before now) Faults status)
     other_status status (done all taken) =
@@ -207,10 +215,9 @@ module _ (words : List (List ℕ)) (files : Option Files) (before now : List Nam
     other_none status (short part l own taken) unread = no_memory
 
     other_read : (status : ℕ) → Outcome text due line out err status → status ≡ 7
-        → (name : Name) × FailsToRead asking (view status) name × TakesAll err (read_fault_line name)
-        × (told : List ℕ) × IsHint told × TakesAll out told
+        → TellsReadFault asking MayRead (call status) × (told : List ℕ) × IsHint told × TakesAll out told
     other_read status (done all taken) seven =
-        let found = reads due seven in (found.0, found.1, subst (TakesAll err) found.2 taken, text, found.3, all)
+        let found = reads due seven in (found.0 taken, text, found.1, all)
     other_read status (failed part l own taken fails) seven = absurd (omega (arith, seven))
     other_read status (short part l own taken) seven = absurd (omega (arith, seven))
 
@@ -220,17 +227,15 @@ module _ (words : List (List ℕ)) (files : Option Files) (before now : List Nam
     other_write status (short part l own taken) eight = absurd (omega (arith, eight))
 
     abbrev Halted : Case ToDo → Type 0
-    Halted case = (l : List ℕ) × IsLine (Grew before now) (case_line case) (names_read case) l × TakesPart err l
+    Halted case = (l : List ℕ) × IsOwnLine (call due) case l × TakesPart err l
 
     for_line : (l : List ℕ) → IsOwn line l → TakesPart err l → For Halted
     for_line l (inl is) part = go files lines
       where
-        go : (told : Option Files) → ForCase asking words told (λ case. IsLine (Grew before now) (case_line case) (names_read case) line)
-            → ForCase asking words told Halted
+        go : (told : Option Files) → ForCase asking words told (λ case. IsOwnLine (call due) case line) → ForCase asking words told Halted
         go None each = tt
         go (Some some) each = λ case is_case. (line, each case is_case, subst (TakesPart err) is part)
-    for_line l (inr (inl is)) part = for_each asking words files Halted (λ case. (l, inr (inl is), part))
-    for_line l (inr (inr is)) part = for_each asking words files Halted (λ case. (l, inr (inr (inl is)), part))
+    for_line l (inr is) part = for_each asking words files Halted (λ case. (l, inr is, part))
 
     other_stopped : (status : ℕ) → Outcome text due line out err status → For Halted
     other_stopped status (done all taken) = for_line line (inl refl) (outcome_part line due line err err due (done taken taken))
@@ -238,7 +243,7 @@ module _ (words : List (List ℕ)) (files : Option Files) (before now : List Nam
     other_stopped status (short part l own taken) = for_line l own taken
 
     explains_other : (explained_by words ≡ None → now ≡ before) → (status : ℕ) → Outcome text due line out err status
-        → Explains (view status)
+        → Explains (call status)
     explains_other unread status ends =
         let is : (status ≡ 7) ⊎ (status ≡ 1) ⊎ (status ≡ 8) = other_apart status ends in
         record {
@@ -272,27 +277,39 @@ module _ (words : List (List ℕ)) (files : Option Files) (before now : List Nam
       → (explained_by words ≡ None → RefusesWords refusal) → (explained_by words ≡ None → now ≡ before)
       → IfSome files (λ told. RefusesCase (IsCase asking words told) refusal)
       → LeavesShelf (explained_by words) before now refusal
-      → TellEnds text (refusal_status refusal) (refusal_line refusal) out err status → Explains (view status)
+      → TellEnds text (refusal_status refusal) (refusal_line GprsView refusal) out err status → Explains (call status)
   refusal_explains RefusedUsage text status hint no_command unread is shelf ends =
-      explains_known (Unit {0}) (λ _. Refused 2 [] gprs.usage_line) text 2 usage_line (alone (λ told. IsCase asking words told (Refused 2 [] gprs.usage_line)) is) (λ _. refl) (λ _. refl)
+      explains_known (Unit {0}) (λ _. own_usage) text 2 (tool_line GprsView (usage_line GprsView))
+      (alone (λ told. IsCase asking words told own_usage) (known files)) (λ _. refl) (λ _. refl)
       (λ _. inr (inr hint)) (inr (inl refl)) (λ _. shelf.0) (λ _. refl) (λ ran. absurd (grind (arith, ran))) (λ _. shelf.1) unread status
-      (outcome text 2 usage_line out err status ends)
+      (outcome text 2 (tool_line GprsView (usage_line GprsView)) out err status ends)
+    where
+      own_usage : Case ToDo
+      own_usage = Refused 2 [] (usage_line GprsView)
+
+      known : (told : Option Files) → IfSome told (λ some. IsCase asking words some own_usage)
+      known None = tt
+      known (Some some) = no_command shelf.0
   refusal_explains (RefusedProgram told) text status some_words no_command unread is shelf ends =
-      explains_known Name (λ name. Refused 3 (name ∷ []) told) text 3 (under_own_name told) is (λ _. refl) (λ _. refl)
+      explains_known Name (λ name. Refused 3 (name ∷ []) told) text 3 (tool_line GprsView told) is (λ _. refl) (λ _. refl)
       (λ _. inl refl) (inr (inr (inl refl))) (λ two. absurd (omega (arith, two))) (λ none. absurd (no_command none))
       (λ ran. absurd (grind (arith, ran))) (λ _. shelf) unread status
-      (outcome text 3 (under_own_name told) out err status ends)
+      (outcome text 3 (tool_line GprsView told) out err status ends)
   refusal_explains (RefusedInput told) text status some_words no_command unread is shelf ends =
-      explains_known (List Name) (λ names. Refused 4 names told) text 4 (under_own_name told) is (λ _. refl) (λ _. refl)
+      explains_known (List Name) (λ names. Refused 4 names told) text 4 (tool_line GprsView told) is (λ _. refl) (λ _. refl)
       (λ _. inr (inl refl)) (inr (inr (inr refl))) (λ two. absurd (omega (arith, two))) (λ none. absurd (no_command none))
       (λ ran. absurd (grind (arith, ran))) (λ ran. absurd (grind (arith, ran))) unread status
-      (outcome text 4 (under_own_name told) out err status ends)
+      (outcome text 4 (tool_line GprsView told) out err status ends)
   refusal_explains (ReadFault name) text status hint no_command unread is shelf ends =
-      explains_other text 7 (read_fault_line name) (λ case. read_fault shelf.1) (inl refl) (λ none. absurd (no_command none))
-      (λ status seven. (name, record { read = read_in files is; alone = shelf.0; grew = shelf.1 }, refl, hint))
-      (λ status part. for_each asking words files (λ case. (told : List ℕ) × IsOwnText (view status) case told × TakesPart out told)
+      explains_other text 7 (tool_line GprsView (read_fault_line name)) (λ case. read_fault shelf.1) (inl refl)
+      (λ none. absurd (no_command none))
+      (λ status seven. (
+        (λ all. record { name = name; read = read_in files is; asked = shelf.2; alone = shelf.0; grew = shelf.1; line = all }),
+        hint,
+      ))
+      (λ status part. for_each asking words files (λ case. (told : List ℕ) × IsOwnText (call status) case told × TakesPart out told)
       (λ case. (text, inr (shelf.1, hint), part)))
-      (line_in files is) unread status (outcome text 7 (read_fault_line name) out err status ends)
+      (line_in files is) unread status (outcome text 7 (tool_line GprsView (read_fault_line name)) out err status ends)
     where
       read_in : (told : Option Files)
           → IfSome told (λ some. (case : Case ToDo) × IsCase asking words some case × Contains (names_read case) name)
@@ -303,20 +320,20 @@ module _ (words : List (List ℕ)) (files : Option Files) (before now : List Nam
 
       line_in : (told : Option Files)
           → IfSome told (λ some. (case : Case ToDo) × IsCase asking words some case × Contains (names_read case) name)
-          → ForCase asking words told (λ case. IsLine (Grew before now) (case_line case) (names_read case) (read_fault_line name))
+          → ForCase asking words told (λ case. IsOwnLine (call 7) case (tool_line GprsView (read_fault_line name)))
       line_in None one = tt
       line_in (Some some) (case, one, reads) =
           for_known asking words (Some some) case
-          (λ c. IsLine (Grew before now) (case_line c) (names_read c) (read_fault_line name)) one
-          (inr (inr (inr (shelf.1, name, reads, refl))))
+          (λ c. IsOwnLine (call 7) c (tool_line GprsView (read_fault_line name))) one (inl (inr (shelf.1, name, reads, refl)))
   refusal_explains OutOfMemory text status no_text no_command unread is shelf ends =
-      explains_other [] 1 out_of_memory_line (λ case. no_memory) (inr refl) (λ none. no_memory) (λ status seven. absurd (omega (arith, seven)))
-      (λ status part. for_each asking words files (λ case. (told : List ℕ) × IsOwnText (view status) case told × TakesPart out told)
+      explains_other [] 1 (tool_line GprsView out_of_memory_line) (λ case. no_memory) (inr refl) (λ none. no_memory)
+      (λ status seven. absurd (omega (arith, seven)))
+      (λ status part. for_each asking words files (λ case. (told : List ℕ) × IsOwnText (call status) case told × TakesPart out told)
       (λ case. let some = some_text case in (some.0, inl some.1, none_part out some.0 part)))
-      (for_each asking words files (λ case. IsLine (Grew before now) (case_line case) (names_read case) out_of_memory_line)
-      (λ case. inr (inl refl))) unread status
-      (outcome [] 1 out_of_memory_line out err status
-      (subst (λ t. TellEnds t 1 out_of_memory_line out err status) no_text ends))
+      (for_each asking words files (λ case. IsOwnLine (call 1) case (tool_line GprsView out_of_memory_line)) (λ case. inr (inl refl)))
+      unread status
+      (outcome [] 1 (tool_line GprsView out_of_memory_line) out err status
+      (subst (λ t. TellEnds t 1 (tool_line GprsView out_of_memory_line) out err status) no_text ends))
 
   -- a run
   end_tells : (e : End) → IsWhole (end_status e)
@@ -331,7 +348,7 @@ module _ (words : List (List ℕ)) (files : Option Files) (before now : List Nam
 
   pub run_explains : (names : List Name) (work : ToDo) (asked : Asked) (status : ℕ) → explained_by words ≡ Some asked
       → IfSome files (λ told. IsCase asking words told (Go names work)) → now ≡ before → RunTold work out err status
-      → Explains (view status)
+      → Explains (call status)
   run_explains names work asked status some is same (text, is_text, ends) =
       let ending = (plain_ran work).end in
       explains_known (Unit {0}) (λ _. Go names work) text (end_status ending) [] (alone (λ told. IsCase asking words told (Go names work)) is)

@@ -12,9 +12,9 @@ use Rattle.call_cases.specs.meaning.RunCommands.{MayRead, end_status}
 use Rattle.call_cases.specs.meaning.PlainText.{plain_ran}
 use Rattle.call_cases.specs.meaning.Work.{ToDo, Go}
 use Rattle.call_cases.specs.meaning.Answers.{Change, TakesAll, TakesPart, Fails}
-use Rattle.call_cases.specs.Answers.{LineEnds}
+use Rattle.call_cases.specs.declared.lines.Tool.TheVariants.{GprsView}
+use Rattle.call_cases.specs.Answers.{LineEnds, StopsBy}
 use Rattle.call_cases.specs.Refusals.{RefusesShelf}
-use Rattle.view_calls.specs.Lines.{fault_line, fault_status}
 use Rattle.explain_calls.specs.declared.reading.Readied.{Readied}
 use Rattle.explain_calls.specs.declared.reading.Explained.{Explained}
 use Rattle.explain_calls.specs.meaning.Fronts.{IsHint, IsText}
@@ -23,7 +23,7 @@ use Rattle.explain_calls.specs.meaning.Fronts.{IsHint, IsText}
 pub data TellEnds (text : List ℕ) (due : ℕ) (line : List ℕ) (out err : Change) : ℕ → Type 0 where
   told : {status : ℕ} → TakesAll out text → LineEnds due line err status → TellEnds text due line out err status
   untold : {status : ℕ} (fault : SinkFault) → TakesPart out text → (fault ≡ Failed → Fails out)
-      → LineEnds (fault_status fault) (fault_line fault) err status → TellEnds text due line out err status
+      → StopsBy GprsView fault err status → TellEnds text due line out err status
 
 -- a run was told, by one of its texts
 abbrev pub RunTold : ToDo → Change → Change → ℕ → Type 0

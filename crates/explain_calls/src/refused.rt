@@ -107,11 +107,11 @@ fn before<'a>(line: &'a [u8], end: &[u8]) -> Option<&'a [u8]> {
     }
 }
 
-// The file, the kind and the row of the line `gprs: input NAME kind K row R`.
+// The file, the kind and the row of the line `input NAME kind K row R`.
 fn parts_of(line: &[u8]) -> Option<(&[u8], u32, u32)> {
     let (rest, row) = split_number(before(line, b"\n")?);
     let (rest, kind) = split_number(before(rest, b" row ")?);
-    let name = before(rest, b" kind ")?.get(b"gprs: input ".len()..)?;
+    let name = before(rest, b" kind ")?.get(b"input ".len()..)?;
     Some((name, kind, row))
 }
 

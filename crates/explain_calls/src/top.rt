@@ -2,19 +2,19 @@
 ghost use Rattle.std.specs.Prelude.{◌≡◌, None};
 ghost use Rattle.command_line.specs.meaning.Words.{texts};
 ghost use Rattle.command_line.specs.Words.{IsWithinLimits};
-ghost use Rattle.call_cases.specs.meaning.Answers.{change_of};
+ghost use Rattle.call_cases.specs.meaning.Answers.{change_of, no_journal};
 ghost use Rattle.call_cases.specs.Decided.{work_of};
-ghost use Rattle.view_calls.specs.Lines.{refusal_line, refusal_status};
+ghost use Rattle.call_cases.specs.declared.lines.Tool.TheVariants.{GprsView};
+ghost use Rattle.call_cases.specs.Refusals.{refusal_line, refusal_status};
 ghost use Rattle.explain_calls.specs.meaning.Commands.{explained_by};
 ghost use Rattle.explain_calls.specs.meaning.Explains.{Explains};
 ghost use Rattle.explain_calls.specs.Endings.{RunTold, TellEnds};
 
 use crate::reading::{Explained, read_explained};
 use crate::running::tell_of;
-use call_cases::{Request, end_status};
+use call_cases::{Request, Tool, end_status, refuse, stop_by};
 use gp_base::{Shelf, Sink, SinkFault, put_all};
 use std::alloc::Global;
-use view_calls::{refuse, stop_with};
 
 // Tells a run of a program with this text, and answers the status.
 fn tell_run<O: Sink, E: Sink>(
@@ -28,22 +28,22 @@ fn tell_run<O: Sink, E: Sink>(
     ensures { RunTold (work_of request.now) (change_of O.written O.faults out.old out.new) (change_of E.written E.faults err.old err.new) result }
 {
     let Ok(told) = tell_of(alloc, request, source) else {
-        return stop_with(SinkFault::OutOfMemory, err);
+        return stop_by(Tool::GprsView, SinkFault::OutOfMemory, err);
     };
     match put_all(out, told.text.as_slice()) {
         Ok(()) => end_status(told.end),
-        Err(fault) => stop_with(fault, err),
+        Err(fault) => stop_by(Tool::GprsView, fault, err),
     }
 }
 
 // Tells a refusal, and answers the status.
 fn tell_refusal<O: Sink, E: Sink>(explained: &Explained, out: &mut O, err: &mut E) -> u8
-    ensures { TellEnds explained.now.text (refusal_status explained.now.refusal) (refusal_line explained.now.refusal)
+    ensures { TellEnds explained.now.text (refusal_status explained.now.refusal) (refusal_line GprsView explained.now.refusal)
         (change_of O.written O.faults out.old out.new) (change_of E.written E.faults err.old err.new) result }
 {
     match put_all(out, explained.text.as_slice()) {
-        Ok(()) => refuse(&explained.refusal, err),
-        Err(fault) => stop_with(fault, err),
+        Ok(()) => refuse(Tool::GprsView, &explained.refusal, err),
+        Err(fault) => stop_by(Tool::GprsView, fault, err),
     }
 }
 
@@ -72,6 +72,7 @@ pub fn explain_run<H: Shelf, O: Sink, E: Sink>(
       out = change_of O.written O.faults out.old out.new;
       err = change_of E.written E.faults err.old err.new;
       status = result;
+      journal = no_journal;
     }) }
 
     // The shelf is not read for other words.

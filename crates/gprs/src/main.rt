@@ -4,7 +4,7 @@
 mod calls;
 mod choice;
 
-use call_cases::{OUT_OF_MEMORY, end_with};
+use call_cases::{OUT_OF_MEMORY, Tool, tell_line};
 use calls::status_of;
 use process_io::{FileShelf, StdSink, words_of};
 use std::io;
@@ -16,7 +16,7 @@ fn main(rt: HostRuntime) -> ExitCode {
     let words = match words_of(&rt) {
         Ok(words) => words,
         Err(fault) if fault.kind() == io::ErrorKind::OutOfMemory => {
-            return ExitCode::from(end_with(&mut err, OUT_OF_MEMORY, 1));
+            return ExitCode::from(tell_line(Tool::Gprs, &mut err, OUT_OF_MEMORY, 1));
         }
         Err(_) => Vec::new(rt.alloc()),
     };
@@ -24,6 +24,6 @@ fn main(rt: HostRuntime) -> ExitCode {
     let mut out = StdSink::new(rt.stdout());
     match status_of(&rt, &words, &mut shelf, &mut out, &mut err) {
         Ok(status) => ExitCode::from(status),
-        Err(_) => ExitCode::from(end_with(&mut err, OUT_OF_MEMORY, 1)),
+        Err(_) => ExitCode::from(tell_line(Tool::Gprs, &mut err, OUT_OF_MEMORY, 1)),
     }
 }

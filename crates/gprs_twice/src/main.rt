@@ -1,7 +1,7 @@
 //! Runs batch programs as `gprs` does, with each subthread walked twice.
 #![tactic(auto)]
 
-use call_cases::{OUT_OF_MEMORY, Outcome, end_with};
+use call_cases::{OUT_OF_MEMORY, Outcome, Tool, tell_line};
 use gp_base::{FreeGate, Shelf, Sink};
 use process_io::{FileShelf, StdSink, words_of};
 use std::io;
@@ -32,7 +32,7 @@ fn main(rt: HostRuntime) -> ExitCode {
     let words = match words_of(&rt) {
         Ok(words) => words,
         Err(fault) if fault.kind() == io::ErrorKind::OutOfMemory => {
-            return ExitCode::from(end_with(&mut err, OUT_OF_MEMORY, 1));
+            return ExitCode::from(tell_line(Tool::Gprs, &mut err, OUT_OF_MEMORY, 1));
         }
         Err(_) => Vec::new(rt.alloc()),
     };

@@ -1,6 +1,6 @@
 // Does what words ask for by the top call that takes them.
 ghost use Rattle.command_line.specs.meaning.Words.{texts};
-ghost use Rattle.call_cases.specs.meaning.Answers.{change_of};
+ghost use Rattle.call_cases.specs.meaning.Answers.{change_of, no_journal};
 ghost use Rattle.explain_calls.specs.meaning.Commands.{is_explain};
 ghost use Rattle.gprs_view.specs.meaning.Promises.{ViewPromise};
 
@@ -26,6 +26,7 @@ pub fn status_for<H: Shelf, O: Sink, E: Sink>(
       out = change_of O.written O.faults out.old out.new;
       err = change_of E.written E.faults err.old err.new;
       status = result;
+      journal = no_journal;
     }) }
 {
     if is_explain(words) {

@@ -4,11 +4,11 @@
 
 mod calls;
 
+use call_cases::{OUT_OF_MEMORY, Tool, tell_line};
 use calls::status_for;
 use process_io::{FileShelf, StdSink, words_of};
 use std::io;
 use std::process::ExitCode;
-use view_calls::{OUT_OF_MEMORY, end_with};
 
 fn main(rt: HostRuntime) -> ExitCode {
     let mut err = StdSink::new(rt.stderr());
@@ -16,7 +16,7 @@ fn main(rt: HostRuntime) -> ExitCode {
     let words = match words_of(&rt) {
         Ok(words) => words,
         Err(fault) if fault.kind() == io::ErrorKind::OutOfMemory => {
-            return ExitCode::from(end_with(&mut err, OUT_OF_MEMORY, 1));
+            return ExitCode::from(tell_line(Tool::GprsView, &mut err, OUT_OF_MEMORY, 1));
         }
         Err(_) => Vec::new(rt.alloc()),
     };

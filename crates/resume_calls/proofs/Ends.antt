@@ -18,12 +18,13 @@ use Rattle.call_cases.specs.declared.reading.Refusal.{Refusal}
 use Rattle.call_cases.specs.declared.reading.Refusal.TheVariants as refused
 use Rattle.call_cases.specs.meaning.Work.{Files, ToDo, Case, Refused}
 use Rattle.call_cases.specs.meaning.Answers.{Change, IsEmpty}
-use Rattle.call_cases.specs.Answers.{unwritten, LineEnds, whole, line_failed, line_no_memory, RunEnds, finished}
+use Rattle.call_cases.specs.Answers.{unwritten, RunEnds, finished}
 use Rattle.call_cases.specs.meaning.Case.{IsCase}
 use Rattle.call_cases.specs.Decided.{work_of}
 use Rattle.call_cases.specs.meaning.Headline.{Headline}
-use Rattle.call_cases.specs.meaning.Lines.{input_line, out_of_memory_line}
-use Rattle.call_cases.specs.Refusals.{RefusesCase, RefusesShelf, IsInputRefused, RefusalEnds, refusal_no_memory, refusal_failed}
+use Rattle.call_cases.specs.declared.lines.Tool.TheVariants.{Gprs}
+use Rattle.call_cases.specs.meaning.Lines.{input_line}
+use Rattle.call_cases.specs.Refusals.{RefusesCase, RefusesShelf, IsInputRefused, RefusalEnds}
 use Rattle.call_cases.proofs.Headlines.{none_taken, run_of_failed, run_of_memory, run_headline, refused_headline}
 use Rattle.resume_calls.specs.declared.halted.Halted.{Halted}
 use Rattle.resume_calls.specs.meaning.Resumption.{Reader, answer_for, by_answer}
@@ -31,13 +32,6 @@ use Rattle.resume_calls.specs.meaning.ResumeCommands.{MayRead, rest_status, rest
 use Rattle.resume_calls.specs.inner.Halting.{resumed_in, files_before, case_of}
 use Rattle.resume_calls.specs.inner.Resting.{Resumes, EndsSo, EndsRest}
 use Rattle.resume_calls.proofs.Sound.{commands_sound}
-
--- the line that tells that memory was out ends a refusal
-memory_refuses : (err : Change) (status : ℕ) → LineEnds 1 out_of_memory_line err status → RefusalEnds err refused.OutOfMemory status
-memory_refuses err status (whole all) =
-    refusal_no_memory (out_of_memory_line, inr (inl refl), prefix_whole err.written err.written' out_of_memory_line all)
-memory_refuses err status (line_failed part fails) = refusal_failed fails (out_of_memory_line, inr (inl refl), part)
-memory_refuses err status (line_no_memory part) = refusal_no_memory (out_of_memory_line, inr (inl refl), part)
 
 -- a file that is refused with a line
 file_refuses : {A T : Type 0} (may_read : A → Name → Type 0) (asked : Option A) (Is : Option Files) (of : Files → Case T → Type 0)
@@ -146,10 +140,10 @@ module _ (one : OneAnswerLaw) (reader : Reader) (words : List (List ℕ)) (files
   by_rows rows is known (Err (stop.LogLine number)) put ends = let never = apart (Rows rows) (Broken number) is put.log in cc never
   by_rows rows is known (Err (stop.LogFit number)) put ends = let never = apart (Rows rows) (Unfit number) is put.log in cc never
   by_rows rows is known (Err stop.WriteFault) put ends =
-      went_on rows known (run_of_failed (rest_text (record { work = work; rows = rows })) []
+      went_on rows known (run_of_failed Gprs (rest_text (record { work = work; rows = rows })) []
       (rest_status (record { work = work; rows = rows })) out err status (put.part rows is) (put.cause refl) ends)
   by_rows rows is known (Err stop.OutOfMemory) put ends =
-      went_on rows known (run_of_memory (rest_text (record { work = work; rows = rows })) []
+      went_on rows known (run_of_memory Gprs (rest_text (record { work = work; rows = rows })) []
       (rest_status (record { work = work; rows = rows })) out err status (put.part rows is) ends)
 
   -- the log was refused, or memory was out before
@@ -173,7 +167,7 @@ module _ (one : OneAnswerLaw) (reader : Reader) (words : List (List ℕ)) (files
   by_broken number is known (Err stop.WriteFault) put ends = let never = apart (Rows put.log.0) (Broken number) put.log.1 is in cc never
   by_broken number is known (Err stop.OutOfMemory) put ends =
       let nothing = no_rows (Broken number) is (λ rows never. cc never) (Err stop.OutOfMemory) put in
-      log_refused (input_line halted.log 7 number) refused.OutOfMemory known nothing.0 nothing.1 tt (memory_refuses err status ends)
+      log_refused (input_line halted.log 7 number) refused.OutOfMemory known nothing.0 nothing.1 tt ends
 
   by_unfit : (number : ℕ) → Answered (Unfit number) → Known (Unfit number) → (result : Result ℕ ResumeStop) → Put result
       → EndsSo halted.log result err status → Promised
@@ -188,7 +182,7 @@ module _ (one : OneAnswerLaw) (reader : Reader) (words : List (List ℕ)) (files
   by_unfit number is known (Err stop.WriteFault) put ends = let never = apart (Rows put.log.0) (Unfit number) put.log.1 is in cc never
   by_unfit number is known (Err stop.OutOfMemory) put ends =
       let nothing = no_rows (Unfit number) is (λ rows never. cc never) (Err stop.OutOfMemory) put in
-      log_refused (input_line halted.log 8 number) refused.OutOfMemory known nothing.0 nothing.1 tt (memory_refuses err status ends)
+      log_refused (input_line halted.log 8 number) refused.OutOfMemory known nothing.0 nothing.1 tt ends
 
   -- what went on, and ended so, meets the promise
   pub rest_headline : IfSome files (λ told. IsCase (asking reader) words told (case_of reader halted)) → EndsRest halted out err status

@@ -2,7 +2,7 @@
 ghost use Rattle.call_cases.specs.meaning.Answers.{change_of};
 ghost use Rattle.resume_calls.specs.inner.Resting.{EndsSo, StopsSo};
 
-use call_cases::{OUT_OF_MEMORY, WRITE_FAULT, end_with, refuse, refused_input};
+use call_cases::{OUT_OF_MEMORY, Tool, WRITE_FAULT, refuse, refused_input, tell_line};
 use gp_base::{Name, Sink};
 use gp_resume::ResumeStop;
 use std::alloc::Global;
@@ -12,10 +12,10 @@ fn stop_with<E: Sink>(alloc: Global, stop: ResumeStop, log: &Name, err: &mut E) 
     ensures { StopsSo log.now stop (change_of E.written E.faults err.old err.new) result }
 {
     match stop {
-        ResumeStop::LogLine(row) => refuse(alloc, refused_input(alloc, log, 7, row), err),
-        ResumeStop::LogFit(row) => refuse(alloc, refused_input(alloc, log, 8, row), err),
-        ResumeStop::WriteFault => end_with(err, WRITE_FAULT, 8),
-        ResumeStop::OutOfMemory => end_with(err, OUT_OF_MEMORY, 1),
+        ResumeStop::LogLine(row) => refuse(Tool::Gprs, &refused_input(alloc, log, 7, row), err),
+        ResumeStop::LogFit(row) => refuse(Tool::Gprs, &refused_input(alloc, log, 8, row), err),
+        ResumeStop::WriteFault => tell_line(Tool::Gprs, err, WRITE_FAULT, 8),
+        ResumeStop::OutOfMemory => tell_line(Tool::Gprs, err, OUT_OF_MEMORY, 1),
     }
 }
 

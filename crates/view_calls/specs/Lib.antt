@@ -1,5 +1,3 @@
-pub mod Lines
-pub mod Shows
 pub mod Sights
 pub mod inner
 pub mod meaning

@@ -1,6 +1,4 @@
 -- What the top calls promise is said in the words of these definitions, and each of them is reached: so these have to be believed.
 pub mod Commands
-pub mod Lines
-pub mod Shows
 pub mod Sights
 pub mod Traces

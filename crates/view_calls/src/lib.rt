@@ -2,11 +2,8 @@
 //! handed in.
 #![tactic(auto)]
 
-mod lines;
 mod reading;
 mod top;
 mod words;
 
-pub use call_cases::end_with;
-pub use lines::{OUT_OF_MEMORY, refuse, stop_with};
 pub use top::view_run;

@@ -4,21 +4,22 @@ ghost use Rattle.std.specs.Io.KnownBytes.{Appends};
 ghost use Rattle.gp_base.specs.meaning.Sinks.{AppendsPrefix, HasCause};
 ghost use Rattle.command_line.specs.meaning.Words.{texts};
 ghost use Rattle.command_line.specs.Words.{IsWithinLimits};
-ghost use Rattle.call_cases.specs.meaning.Answers.{change_of};
+ghost use Rattle.call_cases.specs.meaning.Answers.{change_of, no_journal};
+ghost use Rattle.call_cases.specs.meaning.Headline.{Headline};
+ghost use Rattle.call_cases.specs.declared.lines.Tool.TheVariants.{GprsView};
+ghost use Rattle.call_cases.specs.Answers.{LineEnds, RunEndsOf};
 ghost use Rattle.call_cases.specs.Decided.{work_of};
 ghost use Rattle.audit_calls.specs.meaning.Tried.{Judge};
-ghost use Rattle.view_calls.specs.meaning.Commands.{viewed_by};
-ghost use Rattle.view_calls.specs.meaning.Sights.{text_for, view_of, sight_text, absent_of};
+ghost use Rattle.view_calls.specs.meaning.Commands.{viewed_by, no_position_line, absent_line, commands};
+ghost use Rattle.view_calls.specs.meaning.Sights.{text_for, view_of, sight_text, absent_of, sight_status};
 ghost use Rattle.view_calls.specs.Sights.{lines_in, sight_of};
-ghost use Rattle.view_calls.specs.meaning.Shows.{Shows};
-ghost use Rattle.view_calls.specs.Shows.{ShowEnds};
 
-use crate::lines::{end_no_position, refuse, stop_with};
 use crate::reading::{Trace, Viewing, read_view};
-use call_cases::Request;
+use call_cases::{Request, Tool, refuse, stop_by, tell_about};
 use command_line::Command;
 use gp_audit::TraceLine;
 use gp_base::{Shelf, Sink, SinkFault, Text, put_all};
+use itoa::Buffer;
 use run_views::{order_text, timeline_text, why_text};
 use std::alloc::{AllocError, Global};
 
@@ -95,15 +96,27 @@ fn put_text<O: Sink>(
     Ok(None)
 }
 
+// Tells that there is no such position, and answers the status, which is 5. It is 8 where the write fails, and 1 where
+// memory runs out.
+fn end_no_position<E: Sink>(err: &mut E, position: u64) -> u8
+    ensures { LineEnds 5 (no_position_line position) (change_of E.written E.faults err.old err.new) result }
+{
+    let mut buffer = Buffer::new();
+    let number = buffer.format(position).as_bytes();
+    tell_about(Tool::GprsView, err, b"no position ", number, 5)
+}
+
 // Shows what is asked for, and answers the status.
 fn show<O: Sink, E: Sink>(alloc: Global, viewing: &Viewing, out: &mut O, err: &mut E) -> u8
     requires { IsWithinLimits viewing.now.request.asked }
-    ensures { ShowEnds (sight_of viewing.now) (change_of O.written O.faults out.old out.new) (change_of E.written E.faults err.old err.new) result }
+    ensures { let sight = sight_of viewing.now in
+        RunEndsOf GprsView (sight_text sight) (absent_line (sight_status sight) sight.position) (sight_status sight)
+        (change_of O.written O.faults out.old out.new) (change_of E.written E.faults err.old err.new) result }
 {
     match put_text(alloc, viewing, out) {
         Ok(None) => 0,
         Ok(Some(position)) => end_no_position(err, position),
-        Err(fault) => stop_with(fault, err),
+        Err(fault) => stop_by(Tool::GprsView, fault, err),
     }
 }
 
@@ -124,7 +137,7 @@ pub fn view_run<H: Shelf, O: Sink, E: Sink>(
     out: &mut O,
     err: &mut E,
 ) -> u8
-    ensures shows { (judge : Judge) → Shows judge (record {
+    ensures headline { (judge : Judge) → Headline (commands judge) (record {
       words = texts words.now;
       files = H.files shelf.old;
       failed = H.failed shelf.old;
@@ -132,6 +145,7 @@ pub fn view_run<H: Shelf, O: Sink, E: Sink>(
       out = change_of O.written O.faults out.old out.new;
       err = change_of E.written E.faults err.old err.new;
       status = result;
+      journal = no_journal;
     }) }
 
     // The shelf is not read for words of no command.
@@ -139,6 +153,6 @@ pub fn view_run<H: Shelf, O: Sink, E: Sink>(
 {
     match read_view(alloc, words, shelf) {
         Ok(viewing) => show(alloc, &viewing, out, err),
-        Err(refusal) => refuse(&refusal, err),
+        Err(refusal) => refuse(Tool::GprsView, &refusal, err),
     }
 }

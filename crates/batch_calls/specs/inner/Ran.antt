@@ -24,9 +24,8 @@ use Rattle.whole_run.specs.View.{Batch, lines_of}
 use Rattle.call_cases.specs.meaning.Work.{ToDo}
 use Rattle.call_cases.specs.meaning.PlainText.{plain_ran, restarts_in}
 use Rattle.call_cases.specs.meaning.Journals.{run_of, retired_in, IsJournalOf, IsCompleteOf, TakesRetired}
-use Rattle.call_cases.specs.meaning.Lines.{out_of_memory_line, write_fault_line}
 use Rattle.call_cases.specs.meaning.Answers.{Change, TakesAll, TakesPart, Fails}
-use Rattle.call_cases.specs.Answers.{LineEnds, RunEnds}
+use Rattle.call_cases.specs.Answers.{LineEnds, memory_line, write_line, RunEnds}
 use Rattle.call_cases.specs.meaning.RunCommands.{end_status, IsWhole}
 
 -- a run that stopped at a fault of its output, with this journal
@@ -46,8 +45,8 @@ fault_of why.OutOfMemory = sink.OutOfMemory
 
 -- the line that tells why a call stopped was written, or it was not
 abbrev pub StopsWith : StopWhy → Change → ℕ → Type 0
-StopsWith WriteFault err status = LineEnds 8 write_fault_line err status
-StopsWith why.OutOfMemory err status = LineEnds 1 out_of_memory_line err status
+StopsWith WriteFault err status = LineEnds 8 write_line err status
+StopsWith why.OutOfMemory err status = LineEnds 1 memory_line err status
 
 -- what follows the printed lines of a run of this program with this report, and the summary of it
 abbrev pub told_tail : Program → Report → List ℕ

@@ -3,7 +3,8 @@ use Rattle.std.specs.Prelude.{◌≡◌, ◌⊎◌, ◌++◌, ℕ, ◌<◌, List
 use Rattle.std.specs.Io.KnownBytes.{Appends, Keeps}
 use Rattle.gp_base.specs.meaning.Sinks.{Rose, AppendsPrefix}
 use Rattle.gp_base.specs.declared.journal.Journal.{Journal}
-use Rattle.call_cases.specs.meaning.Lines.{out_of_memory_line, write_fault_line}
+use Rattle.call_cases.specs.declared.lines.Tool.{Tool}
+use Rattle.call_cases.specs.meaning.Lines.{tool_line, out_of_memory_line, write_fault_line}
 
 -- what a call did to a sink: its bytes where it tells them, and its count of faults
 pub record Change : Type 0 where
@@ -39,6 +40,10 @@ Fails change = Rose change.faults change.faults'
 abbrev pub IsEmpty : Journal → Type 0
 IsEmpty journal = (journal.events ≡ []) × (journal.restarts ≡ [])
 
+-- that of a call that makes none
+abbrev pub no_journal : Journal
+no_journal = record { events = []; restarts = [] }
+
 -- the list of failed names grew
 abbrev pub Grew : List (List ℕ) → List (List ℕ) → Type 0
 Grew before now = length before < length now
@@ -51,13 +56,13 @@ pub data Yields (due : ℕ) (shelf_failed sink_failed : Type 0) : ℕ → Type 0
   write_fault : sink_failed → Yields due shelf_failed sink_failed 8
 
 -- the line of status 1 or of status 8
-abbrev pub IsStopLine : List ℕ → Type 0
-IsStopLine line = (line ≡ out_of_memory_line) ⊎ (line ≡ write_fault_line)
+abbrev pub IsStopLine : Tool → List ℕ → Type 0
+IsStopLine tool line = (line ≡ tool_line tool out_of_memory_line) ⊎ (line ≡ tool_line tool write_fault_line)
 
 -- it took a prefix of what comes first, and then a prefix of such a line
-pub record TakesStop (begun : List ℕ) (change : Change) : Type 0 where
+pub record TakesStop (tool : Tool) (begun : List ℕ) (change : Change) : Type 0 where
   pub first : ℕ
   pub stop : List ℕ
-  pub is_stop : IsStopLine stop
+  pub is_stop : IsStopLine tool stop
   pub second : ℕ
   pub taken : TakesAll change (take first begun ++ take second stop)

@@ -1,5 +1,5 @@
 -- The case of a call: what it comes to by its words and the files alone.
-use Rattle.std.specs.Prelude.{◌≡◌, ℕ, true, List, [], ◌∷◌, IfSome, ⊤}
+use Rattle.std.specs.Prelude.{◌≡◌, ℕ, ◌==◌, true, List, [], ◌∷◌, IfSome, ⊤, if◌then◌else◌}
 use Rattle.std.specs.declared.option.Option.{Option}
 use Rattle.std.specs.declared.option.Option.TheVariants.{None, Some}
 use Rattle.gp_base.specs.meaning.Files.{bytes_of}
@@ -7,9 +7,10 @@ use Rattle.task_ast.specs.declared.check_kind.CheckKind.{CheckKind}
 use Rattle.task_ast.specs.meaning.Tree.{Name, Program}
 use Rattle.task_ast.specs.meaning.Check.{check_fault}
 use Rattle.task_parser.specs.meaning.Spelling.{Meaning, Means, Stands, LexFails, ParseFails}
+use Rattle.call_cases.specs.declared.lines.Tool.{Tool}
 use Rattle.call_cases.specs.meaning.Work.{Files, Case, Refused, Go, absent_case, after_file}
 use Rattle.call_cases.specs.meaning.Commands.{Asking, Commands}
-use Rattle.call_cases.specs.meaning.Lines.{usage_line, lex_line, parse_line, check_line}
+use Rattle.call_cases.specs.meaning.Lines.{tool_line, usage_line, lex_line, parse_line, check_line}
 
 module _ {A T : Type 0} (asking : Asking A T) (files : Files) (asked : A) where
   -- the case of a text, by what it means: a program is refused with the line of its first fault, or the files beside it are read
@@ -30,7 +31,7 @@ pub data IsCaseOf {A T : Type 0} (asking : Asking A T) (asked : A) (files : File
 
 -- the case of a call with these words, where the shelf has these files
 pub data IsCase {A T : Type 0} (asking : Asking A T) (words : List (List ℕ)) (files : Files) : Case T → Type 0 where
-  no_command : asking.reading words ≡ None → IsCase asking words files (Refused 2 [] usage_line)
+  no_command : asking.reading words ≡ None → IsCase asking words files (Refused 2 [] (usage_line asking.tool))
   asks : {asked : A} {case : Case T} → asking.reading words ≡ Some asked → IsCaseOf asking asked (asking.files asked files) case
       → IsCase asking words files case
 
@@ -38,10 +39,11 @@ pub data IsCase {A T : Type 0} (asking : Asking A T) (words : List (List ℕ)) (
 abbrev pub ForCase : {A T : Type 0} → Asking A T → List (List ℕ) → Option Files → (Case T → Type 0) → Type 0
 ForCase {T} asking words files P = IfSome files (λ files. (case : Case T) → IsCase asking words files case → P case)
 
--- what the error stream is to take: the line of a refusal, or this at the end of what is done
-abbrev pub due_of : {T : Type 0} → Case T → (error : List ℕ) → List ℕ
-due_of (Refused status names line) error = line
-due_of (Go names work) error = error
+-- What the error stream is to take: the line of a refusal, or this at the end of what is done. That of a file that is not there is due once
+-- a read of it failed.
+abbrev pub due_of : {T : Type 0} → Tool → Case T → (error : List ℕ) → List ℕ
+due_of tool (Refused status names line) error = if status == 7 then [] else tool_line tool line
+due_of tool (Go names work) error = error
 
 -- the files that are read, in the order of reading
 abbrev pub names_read : {T : Type 0} → Case T → List Name

@@ -4,11 +4,14 @@
 use Rattle.std.specs.Prelude.{ℕ, Bool, false, List, [], Option, ⊤}
 use Rattle.gp_base.specs.declared.journal.Journal.{Journal}
 use Rattle.task_ast.specs.meaning.Tree.{Name, Program}
+use Rattle.call_cases.specs.declared.lines.Tool.{Tool}
 use Rattle.call_cases.specs.meaning.Work.{Files, Case}
 use Rattle.call_cases.specs.meaning.Answers.{Change}
 
 -- what words ask for, and what that comes to by the files
 pub record Asking (A T : Type 0) : Type 0 where
+  -- the program whose words they are, which its lines on the error stream name
+  pub tool : Tool
   -- what words ask for, where they are those of a command
   pub reading : List (List ℕ) → Option A
   -- the file of the program that is asked for
@@ -44,8 +47,8 @@ pub record Commands (A T : Type 0) : Type 1 where
   pub text : T → List ℕ
   -- the statuses of such an end
   pub whole : ℕ → Type 0
-  -- what the error stream then took, by the journal of the run
-  pub error : A → Journal → List ℕ
+  -- what the error stream then took, by the status and the journal of the run
+  pub error : A → (status : ℕ) → Journal → List ℕ
   -- what it takes in place of that, and of the line of a stop, where a log is kept of the run
   pub log : MayLog T
   -- The journal is one of the run of what is to be done, and it is complete. The output stands so to the subthreads
@@ -67,7 +70,7 @@ unjournalled asking may_read status whole text = record {
   status = status;
   text = text;
   whole = whole;
-  error = λ asked journal. [];
+  error = λ asked status journal. [];
   log = Unlogged;
   lawful = λ work journal. ⊤;
   complete = λ work journal. ⊤;

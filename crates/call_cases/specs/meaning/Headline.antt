@@ -3,10 +3,11 @@ use Rattle.std.specs.Prelude.{◌≡◌, ◌⊎◌, ℕ, true, false, [], List, 
 use Rattle.gp_base.specs.declared.journal.Journal.{Journal}
 use Rattle.gp_base.specs.meaning.Files.{GrowsByOnly}
 use Rattle.task_ast.specs.meaning.Tree.{Name}
+use Rattle.call_cases.specs.declared.lines.Tool.{Tool}
 use Rattle.call_cases.specs.meaning.Work.{Files, Case}
-use Rattle.call_cases.specs.meaning.Commands.{Commands, MayLog, Unlogged, Logged}
+use Rattle.call_cases.specs.meaning.Commands.{Asking, Commands, MayLog, Unlogged, Logged}
 use Rattle.call_cases.specs.meaning.Case.{IsCase, ForCase, ForRun, HasWork, status_of, text_of, due_of, names_read}
-use Rattle.call_cases.specs.meaning.Lines.{read_fault_line, write_fault_line}
+use Rattle.call_cases.specs.meaning.Lines.{tool_line, read_fault_line, write_fault_line}
 use Rattle.call_cases.specs.meaning.Answers.{Change, TakesAll, TakesPart, TakesNothing, IsUntouched, Fails, Grew, Yields, TakesStop, IsEmpty}
 
 -- a call: what it was given, and what it left
@@ -33,17 +34,17 @@ abbrev pub IsStop : ℕ → Type 0
 IsStop status = (status ≡ 1) ⊎ (status ≡ 8)
 
 -- what the error stream is to take for the case, or, where a read failed, the line of a file that it reads
-abbrev pub IsDue : {T : Type 0} → (grew : Type 0) → Case T → (error : List ℕ) → List ℕ → Type 0
-IsDue grew case error due =
-    (due ≡ due_of case error) ⊎ grew × (name : Name) × Contains (names_read case) name × (due ≡ read_fault_line name)
+abbrev pub IsDue : {T : Type 0} → Tool → (grew : Type 0) → Case T → (error : List ℕ) → List ℕ → Type 0
+IsDue tool grew case error due =
+    (due ≡ due_of tool case error) ⊎ grew × (name : Name) × Contains (names_read case) name × (due ≡ tool_line tool (read_fault_line name))
 
 -- the error stream took a prefix of what is due, and then a prefix of the line that tells the stop
-abbrev pub TakesStopLines : (is_due : List ℕ → Type 0) → Change → Type 0
-TakesStopLines is_due err = (due : List ℕ) × is_due due × TakesStop due err
+abbrev pub TakesStopLines : Tool → (is_due : List ℕ → Type 0) → Change → Type 0
+TakesStopLines tool is_due err = (due : List ℕ) × is_due due × TakesStop tool due err
 
 -- a write failed: one of the line, or one of the output, and then the line tells it
-abbrev pub TellsWriteFault : Change → Change → Type 0
-TellsWriteFault out err = Fails err ⊎ Fails out × TakesAll err write_fault_line
+abbrev pub TellsWriteFault : Tool → Change → Change → Type 0
+TellsWriteFault tool out err = Fails err ⊎ Fails out × TakesAll err (tool_line tool write_fault_line)
 
 module _ {A T : Type 0} (commands : Commands A T) where
   -- a status that tells the case
@@ -51,9 +52,9 @@ module _ {A T : Type 0} (commands : Commands A T) where
   TellsCase status = commands.whole status ⊎ HasCaseLine status
 
   -- what the error stream takes where what is asked was done to its end
-  abbrev pub error_for : Option A → Journal → List ℕ
-  error_for None journal = []
-  error_for (Some asked) journal = commands.error asked journal
+  abbrev pub error_for : Option A → (status : ℕ) → Journal → List ℕ
+  error_for None status journal = []
+  error_for (Some asked) status journal = commands.error asked status journal
 
   -- no run begins for what is asked: the words are those of no command, or of one that runs nothing over a journal
   abbrev pub RunsNothing : Option A → Type 0
@@ -66,34 +67,35 @@ module _ {A T : Type 0} (commands : Commands A T) where
 module _ {A T : Type 0} (commands : Commands A T) (call : Call) where
   -- what the error stream took where what is asked was done to its end: the text that is due then, or the whole log
   abbrev pub IsQuiet : MayLog T → Type 0
-  IsQuiet Unlogged = TakesAll call.err (error_for commands (commands.asking.reading call.words) call.journal)
+  IsQuiet Unlogged = TakesAll call.err (error_for commands (commands.asking.reading call.words) call.status call.journal)
   IsQuiet (Logged log) =
       ForCase commands.asking call.words call.files
       (λ case. ForRun commands case (λ work. TakesAll call.err (log.whole work) × log.taken work call.journal call.err))
 
   -- a write failed, of which a line tells, but where a log is kept
   abbrev pub TellsWrite : MayLog T → Type 0
-  TellsWrite Unlogged = TellsWriteFault call.out call.err
+  TellsWrite Unlogged = TellsWriteFault commands.asking.tool call.out call.err
   TellsWrite (Logged log) = Fails call.out ⊎ Fails call.err
 
   -- The call stopped, of which a line tells. Where a log is kept, one does only before anything was done to the output, and else the error
   -- stream has that log.
   abbrev pub TellsStop : MayLog T → Case T → Type 0
   TellsStop Unlogged case =
-      TakesStopLines (IsDue (Grew call.failed call.failed') case
-      (error_for commands (commands.asking.reading call.words) call.journal)) call.err
+      TakesStopLines commands.asking.tool (IsDue commands.asking.tool (Grew call.failed call.failed') case
+      (error_for commands (commands.asking.reading call.words) (status_of commands case) call.journal)) call.err
   TellsStop (Logged log) case =
-      (IsUntouched call.out × IsEmpty call.journal × TakesStopLines (IsDue (Grew call.failed call.failed') case []) call.err)
+      (IsUntouched call.out × IsEmpty call.journal
+      × TakesStopLines commands.asking.tool (IsDue commands.asking.tool (Grew call.failed call.failed') case []) call.err)
       ⊎ HasWork case × ForRun commands case (λ work. log.taken work call.journal call.err)
 
 -- A file could not be read: its reads alone failed, and the line names it. It is one that the case reads, and one that the words ask for.
-pub record TellsReadFault {A T : Type 0} (commands : Commands A T) (call : Call) : Type 0 where
+pub record TellsReadFault {A T : Type 0} (asking : Asking A T) (may_read : A → Name → Type 0) (call : Call) : Type 0 where
   pub name : Name
-  pub read : ForCase commands.asking call.words call.files (λ case. Contains (names_read case) name)
-  pub asked : IsSomeAnd (commands.asking.reading call.words) (λ asked. commands.may_read asked name)
+  pub read : ForCase asking call.words call.files (λ case. Contains (names_read case) name)
+  pub asked : IsSomeAnd (asking.reading call.words) (λ asked. may_read asked name)
   pub alone : GrowsByOnly name call.failed call.failed'
   pub grew : Grew call.failed call.failed'
-  pub line : TakesAll call.err (read_fault_line name)
+  pub line : TakesAll call.err (tool_line asking.tool (read_fault_line name))
 
 -- what holds of a call with these commands whose case is this
 pub record MeetsCase {A T : Type 0} (commands : Commands A T) (call : Call) (case : Case T) : Type 0 where
@@ -103,7 +105,7 @@ pub record MeetsCase {A T : Type 0} (commands : Commands A T) (call : Call) (cas
   pub text : commands.whole call.status → TakesAll call.out (text_of commands case)
   pub prefix : TakesPart call.out (text_of commands case)
   -- The error stream grew by the line that tells a refusal, and where the call stopped by what is due then.
-  pub line : HasCaseLine call.status → TakesAll call.err (due_of case [])
+  pub line : HasCaseLine call.status → TakesAll call.err (due_of commands.asking.tool case [])
   pub stopped : IsStop call.status → TellsStop commands call commands.log case
   -- Where a file that is read is not there, a read of it failed, or memory ran out before; status 8 then says that the line of that could
   -- not be written.
@@ -132,7 +134,7 @@ pub record Headline {A T : Type 0} (commands : Commands A T) (call : Call) : Typ
   pub refused : IsRefusal call.status → TakesNothing call.out
   -- The error stream grew by what is due at a whole text, as a trace, or by the log, where one is kept; or by the line that tells the fault.
   pub quiet : commands.whole call.status → IsQuiet commands call commands.log
-  pub read_fault : call.status ≡ 7 → TellsReadFault commands call
+  pub read_fault : call.status ≡ 7 → TellsReadFault commands.asking commands.may_read call
   pub write_fault : call.status ≡ 8 → TellsWrite commands call commands.log
   -- No read failed where the status tells the case, and none was made where nothing is read.
   pub untouched : TellsCase commands call.status → call.failed' ≡ call.failed

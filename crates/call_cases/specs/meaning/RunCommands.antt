@@ -9,6 +9,7 @@ use Rattle.command_line.specs.meaning.Words.{asked_by, asked_among}
 use Rattle.command_line.specs.declared.asked.Command.{Command}
 use Rattle.command_line.specs.declared.asked.Command.TheVariants.{One, Check, Soak}
 use Rattle.command_line.specs.declared.asked.Asked.{Asked}
+use Rattle.call_cases.specs.declared.lines.Tool.TheVariants.{Gprs}
 use Rattle.call_cases.specs.meaning.Work.{ToDo, runs, makes_files, is_journalled}
 use Rattle.call_cases.specs.meaning.InputFiles.{supplied_by}
 use Rattle.call_cases.specs.meaning.SoakFiles.{files_of}
@@ -51,7 +52,14 @@ pub data MayRead (asked : Asked) : Name → Type 0 where
 
 -- what words ask for, and what that comes to by the files
 abbrev pub asking : Asking Asked ToDo
-asking = record { reading = asked_by; program = λ asked. asked.program; files = λ asked. files_of asked.command; supplied = supplied_by }
+asking =
+    record {
+      tool = Gprs;
+      reading = asked_by;
+      program = λ asked. asked.program;
+      files = λ asked. files_of asked.command;
+      supplied = supplied_by;
+    }
 
 -- the promises
 abbrev pub commands : Commands Asked ToDo
@@ -64,7 +72,7 @@ commands = record {
   status = λ work. work_status work.command work;
   text = λ work. work_text work.command work;
   whole = IsWhole;
-  error = trace_for;
+  error = λ asked status. trace_for asked;
   log = Unlogged;
   lawful = IsJournalOf;
   complete = IsCompleteOf;

@@ -6,10 +6,10 @@ use Rattle.command_line.specs.declared.asked.Asked.{Asked}
 use Rattle.command_line.specs.declared.asked.Verb.TheVariants.{Run}
 use Rattle.call_cases.specs.meaning.Work.{ToDo, Case, Refused, Go}
 use Rattle.call_cases.specs.meaning.InputFiles.{supplied_by}
+use Rattle.call_cases.specs.declared.lines.Tool.TheVariants.{GprsView}
 use Rattle.call_cases.specs.meaning.Commands.{Asking}
 use Rattle.call_cases.specs.meaning.RunCommands.{end_status}
 use Rattle.call_cases.specs.meaning.PlainText.{plain_ran}
-use Rattle.view_calls.specs.meaning.Lines.{refused_line}
 
 -- a run without a flag for a trace to be written
 abbrev pub without_trace : Asked → Option Asked
@@ -25,14 +25,16 @@ abbrev pub explained_by : List (List ℕ) → Option Asked
 explained_by words = if is_explain words then option_and_then without_trace (asked_of true Run words) else None
 
 abbrev pub asking : Asking Asked ToDo
-asking = record { reading = explained_by; program = λ asked. asked.program; files = λ asked files. files; supplied = supplied_by }
+asking =
+    record {
+      tool = GprsView;
+      reading = explained_by;
+      program = λ asked. asked.program;
+      files = λ asked files. files;
+      supplied = supplied_by;
+    }
 
 -- the status of a case: a run is made on one thread, so that faults strike nothing
 abbrev pub case_status : Case ToDo → ℕ
 case_status (Refused status names line) = status
 case_status (Go names work) = end_status (plain_ran work).end
-
--- its line on the error stream
-abbrev pub case_line : Case ToDo → List ℕ
-case_line (Refused status names line) = refused_line status line
-case_line (Go names work) = []

@@ -19,8 +19,8 @@ use Rattle.gp_resume.specs.meaning.Resumed as rest
 use Rattle.gp_resume.specs.Resuming.{AnswersLog, IsRefused, HasNoRows, HasResumeCause}
 use Rattle.call_cases.specs.declared.reading.Refusal.{Refusal}
 use Rattle.call_cases.specs.meaning.Answers.{Change, TakesAll, TakesPart, IsUntouched, Fails}
-use Rattle.call_cases.specs.Answers.{LineEnds}
-use Rattle.call_cases.specs.meaning.Lines.{input_line, out_of_memory_line, write_fault_line}
+use Rattle.call_cases.specs.Answers.{LineEnds, memory_line, write_line}
+use Rattle.call_cases.specs.meaning.Lines.{input_line}
 use Rattle.call_cases.specs.Refusals.{IsInputRefused, RefusalEnds}
 use Rattle.call_cases.specs.meaning.RunCommands.{end_status}
 use Rattle.call_cases.specs.Decided.{program_in as request_program}
@@ -69,8 +69,8 @@ StopsSo file (LogLine number) err status =
     (refusal : Refusal) × IsInputRefused (input_line file 7 number) refusal × RefusalEnds err refusal status
 StopsSo file (LogFit number) err status =
     (refusal : Refusal) × IsInputRefused (input_line file 8 number) refusal × RefusalEnds err refusal status
-StopsSo file WriteFault err status = LineEnds 8 write_fault_line err status
-StopsSo file OutOfMemory err status = LineEnds 1 out_of_memory_line err status
+StopsSo file WriteFault err status = LineEnds 8 write_line err status
+StopsSo file OutOfMemory err status = LineEnds 1 memory_line err status
 
 -- and one whose text was written, or which stopped
 abbrev pub EndsSo : (file : Name) → Result ℕ ResumeStop → (err : Change) → (status : ℕ) → Type 0

@@ -4,6 +4,7 @@ use Rattle.task_ast.specs.meaning.Tree.{Name}
 use Rattle.gp_resume.specs.meaning.Resumed as rest
 use Rattle.command_line.specs.meaning.ResumeWords.{resumed_by}
 use Rattle.command_line.specs.declared.resume_words.Resumed.{Resumed}
+use Rattle.call_cases.specs.declared.lines.Tool.TheVariants.{Gprs}
 use Rattle.call_cases.specs.meaning.RunCommands.{IsWhole, end_status}
 use Rattle.call_cases.specs.meaning.RunCommands.{MayRead as MayReadFor}
 use Rattle.call_cases.specs.meaning.Commands.{Asking, Commands, unjournalled}
@@ -25,7 +26,13 @@ rest_text resumption = let work = resumption.work in rest.text work.program work
 -- what words ask for, and what that comes to by the files of the shelf
 abbrev pub asking : Reader → Asking Resumed Resumption
 asking reader =
-    record { reading = resumed_by; program = λ resumed. resumed.run.program; files = λ resumed files. files; supplied = supplied reader }
+    record {
+      tool = Gprs;
+      reading = resumed_by;
+      program = λ resumed. resumed.run.program;
+      files = λ resumed files. files;
+      supplied = supplied reader;
+    }
 
 -- The promises: the output takes the text that is still to come, and the status is that of the run. The error stream then took nothing, and
 -- no run over a journal begins.

@@ -1,5 +1,5 @@
 -- What the words of `gprs_view` ask for, and what is done for that, as one value of the record of promises.
-use Rattle.std.specs.Prelude.{◌≡◌, ◌⊎◌, ℕ, suc, ◌+◌, true, nat_lt, List, [], ◌∷◌, ◌++◌, length, take, drop, get_or, Option, Some, None, option_and_then, option_map, codes, if◌then◌else◌}
+use Rattle.std.specs.Prelude.{◌≡◌, ◌⊎◌, ℕ, suc, ◌+◌, true, nat_lt, List, [], ◌∷◌, ◌++◌, length, take, drop, get_or, Option, Some, None, option_and_then, option_map, codes, decimal, ◌==◌, if◌then◌else◌}
 use Rattle.std.specs.Option.{option_or}
 use Rattle.std.specs.Str.{bytes_eq}
 use Rattle.task_ast.specs.meaning.Tree.{Name}
@@ -8,6 +8,8 @@ use Rattle.command_line.specs.meaning.WhyWords.{sought_by}
 use Rattle.command_line.specs.declared.asked.Asked.{Asked}
 use Rattle.command_line.specs.declared.asked.Verb.TheVariants.{Run, One}
 use Rattle.command_line.specs.declared.why_words.Sought.{Sought}
+use Rattle.call_cases.specs.declared.lines.Tool.TheVariants.{GprsView}
+use Rattle.call_cases.specs.meaning.Lines.{tool_line}
 use Rattle.call_cases.specs.meaning.Commands.{Asking, Commands, unjournalled}
 use Rattle.call_cases.specs.meaning.RunCommands as gprs
 use Rattle.audit_calls.specs.meaning.Tried.{Judge}
@@ -68,12 +70,29 @@ pub data MayRead (viewed : Viewed) : Name → Type 0 where
 
 abbrev pub asking : Judge → Asking Viewed Sight
 asking judge =
-    record { reading = viewed_by; program = λ viewed. viewed.run.program; files = λ viewed files. files; supplied = supplied judge }
+    record {
+      tool = GprsView;
+      reading = viewed_by;
+      program = λ viewed. viewed.run.program;
+      files = λ viewed files. files;
+      supplied = supplied judge;
+    }
 
 -- shown, or there is no such position
 abbrev pub IsShown : ℕ → Type 0
 IsShown status = (status ≡ 0) ⊎ (status ≡ 5)
 
+-- the line of a position that there is not, and what the error stream takes where this is the status of what was asked to be shown
+abbrev pub no_position_line : (position : ℕ) → List ℕ
+no_position_line position = tool_line GprsView (codes "no position " ++ decimal position ++ codes "\n")
+
+abbrev pub absent_line : (status : ℕ) → (position : Option ℕ) → List ℕ
+absent_line status None = []
+absent_line status (Some position) = if status == 5 then no_position_line position else []
+
 -- the promises: no run over a journal begins, and a run that is stuck or has spent its limits is shown like any other
 abbrev pub commands : Judge → Commands Viewed Sight
-commands judge = unjournalled (asking judge) MayRead sight_status IsShown sight_text
+commands judge =
+    record (unjournalled (asking judge) MayRead sight_status IsShown sight_text) {
+      error = λ viewed status journal. absent_line status viewed.position;
+    }

@@ -1,8 +1,7 @@
 use Rattle.std.proofs.Common.{inl, refl, subst, OnErr}
 use Rattle.std.proofs.KnownBytes.{Appends-nil}
 use Rattle.call_cases.specs.meaning.Answers.{TakesPart}
-use Rattle.call_cases.specs.meaning.Lines.{out_of_memory_line}
-use Rattle.call_cases.specs.Answers.{run_no_memory}
+use Rattle.call_cases.specs.Answers.{memory_line, run_no_memory}
 use Rattle.batch_calls.proofs.crews.outcome_of_one.Goals as goal
 
 pub returns-in-Err-OutOfMemory-clause-ends : goal.returns-in-Err-OutOfMemory-clause-ends
@@ -10,7 +9,7 @@ returns-in-Err-OutOfMemory-clause-ends g c text due out put =
     run_no_memory (subst (λ r. OnErr r (TakesPart out text)) c.in-Err-OutOfMemory.is put.part)
     (record {
       first = 0;
-      stop = out_of_memory_line;
+      stop = memory_line;
       is_stop = inl refl;
       second = 0;
       taken = Appends-nil (g.E.Sink.written c.args.err.now);

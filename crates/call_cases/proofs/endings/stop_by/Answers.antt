@@ -5,5 +5,5 @@ use Rattle.call_cases.proofs.endings.stop_by.Goals as goal
 
 pub returns-in-Failed : goal.returns-in-Failed
 returns-in-Failed g c =
-    let err = change_of g.E.Sink.written g.E.Sink.faults c.args.err.now c.end_with.new.err in
-    subst (λ fault. StopsBy fault err c.end_with.result) (sym c.in-Failed.is) c.end_with.ensures
+    let err = change_of g.E.Sink.written g.E.Sink.faults c.args.err.now c.tell_line.new.err in
+    subst (λ fault. StopsBy c.args.tool fault err c.tell_line.result) (sym c.in-Failed.is) c.tell_line.ensures

@@ -12,4 +12,4 @@ pub returns-in-Err : goal.returns-in-Err
 returns-in-Err g c =
     let out = change_of g.O.Sink.written g.O.Sink.faults c.args.out.now c.put_all.new.to in
     untold c.in-Err.fault (subst (TakesPart out) c.as_slice.ensures c.in-Err.ensures.prefix)
-    (λ is. c.in-Err.ensures.cause.failed (ap Err is)) c.stop_with.ensures
+    (λ is. c.in-Err.ensures.cause.failed (ap Err is)) c.stop_by.ensures

@@ -18,7 +18,7 @@ returns-in_default g c =
     let text = front work.program work.inputs work.limits in (
       text,
       ([], sym (append-nil text)),
-      untold sink.OutOfMemory (prefix_none (g.O.Sink.written c.args.out.now) text) (λ is. absurd (cc is)) c.stop_with.ensures,
+      untold sink.OutOfMemory (prefix_none (g.O.Sink.written c.args.out.now) text) (λ is. absurd (cc is)) c.stop_by.ensures,
     )
 
 pub returns-in-Ok-put_all : goal.returns-in-Ok-put_all
@@ -39,5 +39,5 @@ returns g c =
       c.in-Ok.told.text,
       c.in-Ok.ensures.text,
       untold c.in-Err.fault (subst (TakesPart out) c.as_slice.ensures c.in-Err.ensures.prefix)
-          (λ is. c.in-Err.ensures.cause.failed (ap Err is)) c.stop_with-in-Err.ensures,
+          (λ is. c.in-Err.ensures.cause.failed (ap Err is)) c.stop_by-in-Err.ensures,
     )

@@ -1,7 +1,7 @@
 use Rattle.std.proofs.Common.{rules, ◌++◌}
 use Rattle.std.proofs.lemmas.Result.{on_ok_weaker, on_err_weaker}
 use Rattle.gp_base.proofs.Written.{Appends-append, prefix_first, prefix_second}
-use Rattle.view_calls.proofs.lines.put_three.Goals as goal
+use Rattle.call_cases.proofs.lines.put_three.Goals as goal
 
 pub returns-in_err-put_all-clause-prefix : goal.returns-in_err-put_all-clause-prefix
 returns-in_err-put_all-clause-prefix g c =

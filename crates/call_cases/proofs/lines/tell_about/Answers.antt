@@ -1,6 +1,6 @@
 use Rattle.std.proofs.Common.{ap, Err}
 use Rattle.call_cases.specs.Answers.{whole, line_failed, line_no_memory}
-use Rattle.view_calls.proofs.lines.end_no_position.Goals as goal
+use Rattle.call_cases.proofs.lines.tell_about.Goals as goal
 
 pub returns-in-Ok : goal.returns-in-Ok
 returns-in-Ok g c = whole c.in-Ok.ensures.all
