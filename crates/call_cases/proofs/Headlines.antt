@@ -1,8 +1,8 @@
 -- From what the parts of a top call ensure to what is promised of the call, for each value of the record of promises.
 --
--- A call refuses, or begins what is asked. What begins ends in one of a few ways, each with its status: RunEndsOf where
--- no log is kept, LogEndsOf where one is. Each fact of the promise goes by these ways; both come to Ended, from which the
--- promise follows once. A refusal goes by its kinds, and writes the same whether a log would be kept or not.
+-- A call refuses, or begins what is asked. What begins ends in one of a few ways, each with its status: RunEndsOf where no
+-- log is kept, LogEndsOf where one is. Each fact of the promise goes by these ways; both come to Ended, from which it
+-- follows once. A refusal goes by its kinds, and writes the same whether a log would be kept or not.
 use Rattle.std.proofs.Common.{◌≡◌, ◌⊎◌, ℕ, true, false, List, [], ◌∷◌, take, IfSome, refl, sym, subst, inl, inr, arith, append-nil}
 use Rattle.std.specs.List.{Contains}
 use Rattle.std.specs.declared.option.Option.{Option}

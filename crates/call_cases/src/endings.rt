@@ -74,8 +74,8 @@ pub fn stop_by<E: Sink>(tool: Tool, fault: SinkFault, err: &mut E) -> u8
     }
 }
 
-/// How a call of `gprs` ended that runs over no journal, by the answer to the write of its text: the status, or why the write
-/// stopped. Then `err` took the line that tells it.
+/// How a call of `gprs` ended that runs over no journal, by the answer to the write of its text: the status, or why the
+/// write stopped. Then `err` took the line that tells it.
 pub fn plain_outcome<E: Sink>(alloc: Global, put: Result<u8, SinkFault>, err: &mut E) -> Outcome
     ensures ends { (text : List ℕ) (due : ℕ) (out : Change) → PutFor text due out put → RunEnds text [] due out (change_of E.written E.faults err.old err.new) result.status }
     ensures empty { IsEmpty result.journal }

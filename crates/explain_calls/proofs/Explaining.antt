@@ -1,6 +1,5 @@
 -- From what the parts of the call ensure to what is promised of it.
 use Rattle.std.proofs.Common.{◌≡◌, ◌⊎◌, ◌∙◌, ℕ, List, [], ◌∷◌, IfSome, refl, sym, subst, inl, inr, arith}
-use Rattle.std.specs.Prelude.{IsSomeAnd}
 use Rattle.std.specs.List.{Contains}
 use Rattle.std.specs.declared.option.Option.{Option}
 use Rattle.std.specs.declared.option.Option.TheVariants.{None, Some}
@@ -278,31 +277,28 @@ module _ (words : List (List ℕ)) (files : Option Files) (before now : List Nam
       → IfSome files (λ told. RefusesCase (IsCase asking words told) refusal)
       → LeavesShelf (explained_by words) before now refusal
       → TellEnds text (refusal_status refusal) (refusal_line GprsView refusal) out err status → Explains (call status)
-  refusal_explains RefusedUsage text status hint no_command unread is shelf ends =
-      explains_known (Unit {0}) (λ _. own_usage) text 2 (tool_line GprsView (usage_line GprsView))
-      (alone (λ told. IsCase asking words told own_usage) (known files)) (λ _. refl) (λ _. refl)
+  refusal_explains RefusedUsage text status hint untold unread is shelf ends =
+      explains_known (Unit {0}) (λ _. Refused 2 [] (usage_line GprsView)) text 2 (tool_line GprsView (usage_line GprsView))
+      (alone (λ told. IsCase asking words told (Refused 2 [] (usage_line GprsView))) (known files)) (λ _. refl) (λ _. refl)
       (λ _. inr (inr hint)) (inr (inl refl)) (λ _. shelf.0) (λ _. refl) (λ ran. absurd (grind (arith, ran))) (λ _. shelf.1) unread status
       (outcome text 2 (tool_line GprsView (usage_line GprsView)) out err status ends)
     where
-      own_usage : Case ToDo
-      own_usage = Refused 2 [] (usage_line GprsView)
-
-      known : (told : Option Files) → IfSome told (λ some. IsCase asking words some own_usage)
+      known : (told : Option Files) → IfSome told (λ some. IsCase asking words some (Refused 2 [] (usage_line GprsView)))
       known None = tt
       known (Some some) = no_command shelf.0
-  refusal_explains (RefusedProgram told) text status some_words no_command unread is shelf ends =
+  refusal_explains (RefusedProgram told) text status some_words untold unread is shelf ends =
       explains_known Name (λ name. Refused 3 (name ∷ []) told) text 3 (tool_line GprsView told) is (λ _. refl) (λ _. refl)
-      (λ _. inl refl) (inr (inr (inl refl))) (λ two. absurd (omega (arith, two))) (λ none. absurd (no_command none))
+      (λ _. inl refl) (inr (inr (inl refl))) (λ two. absurd (omega (arith, two))) (λ none. absurd (untold none))
       (λ ran. absurd (grind (arith, ran))) (λ _. shelf) unread status
       (outcome text 3 (tool_line GprsView told) out err status ends)
-  refusal_explains (RefusedInput told) text status some_words no_command unread is shelf ends =
+  refusal_explains (RefusedInput told) text status some_words untold unread is shelf ends =
       explains_known (List Name) (λ names. Refused 4 names told) text 4 (tool_line GprsView told) is (λ _. refl) (λ _. refl)
-      (λ _. inr (inl refl)) (inr (inr (inr refl))) (λ two. absurd (omega (arith, two))) (λ none. absurd (no_command none))
+      (λ _. inr (inl refl)) (inr (inr (inr refl))) (λ two. absurd (omega (arith, two))) (λ none. absurd (untold none))
       (λ ran. absurd (grind (arith, ran))) (λ ran. absurd (grind (arith, ran))) unread status
       (outcome text 4 (tool_line GprsView told) out err status ends)
-  refusal_explains (ReadFault name) text status hint no_command unread is shelf ends =
+  refusal_explains (ReadFault name) text status hint untold unread is shelf ends =
       explains_other text 7 (tool_line GprsView (read_fault_line name)) (λ case. read_fault shelf.1) (inl refl)
-      (λ none. absurd (no_command none))
+      (λ none. absurd (untold none))
       (λ status seven. (
         (λ all. record { name = name; read = read_in files is; asked = shelf.2; alone = shelf.0; grew = shelf.1; line = all }),
         hint,
@@ -325,7 +321,7 @@ module _ (words : List (List ℕ)) (files : Option Files) (before now : List Nam
       line_in (Some some) (case, one, reads) =
           for_known asking words (Some some) case
           (λ c. IsOwnLine (call 7) c (tool_line GprsView (read_fault_line name))) one (inl (inr (shelf.1, name, reads, refl)))
-  refusal_explains OutOfMemory text status no_text no_command unread is shelf ends =
+  refusal_explains OutOfMemory text status no_text untold unread is shelf ends =
       explains_other [] 1 (tool_line GprsView out_of_memory_line) (λ case. no_memory) (inr refl) (λ none. no_memory)
       (λ status seven. absurd (omega (arith, seven)))
       (λ status part. for_each asking words files (λ case. (told : List ℕ) × IsOwnText (call status) case told × TakesPart out told)

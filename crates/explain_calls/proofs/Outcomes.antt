@@ -1,5 +1,5 @@
 -- The ways in which a call ends that writes a text and then a line.
-use Rattle.std.proofs.Common.{◌≡◌, ◌⊎◌, ℕ, zero, suc, List, [], take, refl, sym, subst, inl, inr}
+use Rattle.std.proofs.Common.{◌≡◌, ◌⊎◌, ℕ, zero, suc, List, [], take, refl, subst, inl, inr}
 use Rattle.gp_base.specs.declared.sink.SinkFault.TheVariants.{Failed}
 use Rattle.gp_base.specs.declared.sink.SinkFault.TheVariants as sink
 use Rattle.gp_base.proofs.Written.{prefix_whole}

@@ -39,8 +39,8 @@ pub data IsCase {A T : Type 0} (asking : Asking A T) (words : List (List ℕ)) (
 abbrev pub ForCase : {A T : Type 0} → Asking A T → List (List ℕ) → Option Files → (Case T → Type 0) → Type 0
 ForCase {T} asking words files P = IfSome files (λ files. (case : Case T) → IsCase asking words files case → P case)
 
--- What the error stream is to take: the line of a refusal, or this at the end of what is done. That of a file that is not there is due once
--- a read of it failed.
+-- what the error stream is to take: this at the end of what is done, or the line of a refusal, but that of a file that is
+-- not there is due once a read of it failed
 abbrev pub due_of : {T : Type 0} → Tool → Case T → (error : List ℕ) → List ℕ
 due_of tool (Refused status names line) error = if status == 7 then [] else tool_line tool line
 due_of tool (Go names work) error = error

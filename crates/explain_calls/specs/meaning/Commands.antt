@@ -26,13 +26,7 @@ explained_by words = if is_explain words then option_and_then without_trace (ask
 
 abbrev pub asking : Asking Asked ToDo
 asking =
-    record {
-      tool = GprsView;
-      reading = explained_by;
-      program = λ asked. asked.program;
-      files = λ asked files. files;
-      supplied = supplied_by;
-    }
+    record { tool = GprsView; reading = explained_by; program = λ asked. asked.program; files = λ _ files. files; supplied = supplied_by }
 
 -- the status of a case: a run is made on one thread, so that faults strike nothing
 abbrev pub case_status : Case ToDo → ℕ

@@ -82,7 +82,7 @@ asking judge =
 abbrev pub IsShown : ℕ → Type 0
 IsShown status = (status ≡ 0) ⊎ (status ≡ 5)
 
--- the line of a position that there is not, and what the error stream takes where this is the status of what was asked to be shown
+-- the line of a position that there is not, and what the error stream takes at this status
 abbrev pub no_position_line : (position : ℕ) → List ℕ
 no_position_line position = tool_line GprsView (codes "no position " ++ decimal position ++ codes "\n")
 
