@@ -22,7 +22,9 @@ use crate::basis::{Basis, Output};
 use crate::logged::{outcome_logged, put_logged};
 use crate::plan::Begins;
 use crate::texts::OUTPUT;
-use call_cases::{OUT_OF_MEMORY, Outcome, Tool, WRITE_FAULT, empty_journal, end_status, end_with, tell_line};
+use call_cases::{
+    OUT_OF_MEMORY, Outcome, Tool, WRITE_FAULT, empty_journal, end_status, end_with, tell_line,
+};
 use command_line::Soak;
 use crew::{Crew, InlineCrew};
 use engine::{EngineStop, Report, StopWhy, drive};

@@ -21,13 +21,7 @@ IsTold status = (status ≡ 0) ⊎ (status ≡ 9) ⊎ (status ≡ 10)
 -- what words ask for, and what that comes to by the files of the shelf
 abbrev pub asking : Judge → Asking Audited Tried
 asking judge =
-    record {
-      tool = Gprs;
-      reading = audited_by;
-      program = λ audited. audited.run.program;
-      files = λ audited files. files;
-      supplied = supplied judge;
-    }
+    record { tool = Gprs; reading = audited_by; program = λ audited. audited.run.program; files = λ _ files. files; supplied = supplied judge }
 
 -- The promises: the status and the text tell the verdict. The error stream then took nothing, and no run over a journal begins.
 abbrev pub commands : Judge → Commands Audited Tried
