@@ -86,9 +86,9 @@ fn taken_before(pieces: &[usize], most: usize, fails: u64) -> Option<usize> {
     None
 }
 
-// A number above that of each call which takes the next of so many bytes, and of two more.
+// A number above that of each call which takes the next of so many bytes, and of three more.
 fn above_calls(bytes: usize, most: usize) -> u64 {
-    (bytes.div_ceil(most.max(1)) as u64).saturating_add(4)
+    (bytes.div_ceil(most.max(1)) as u64).saturating_add(5)
 }
 
 // The sink took so many of the first bytes of the text, or all of them.
@@ -196,15 +196,22 @@ fn an_output_that_fails_has_a_prefix(rt: HostRuntime) -> Result<(), Fail> {
     Ok(())
 }
 
+// A call, and how many bytes each piece has in which its error stream is offered what it takes.
+#[derive(Clone, Copy)]
+struct Telling<'a> {
+    case: Case<'a>,
+    pieces: &'a [usize],
+}
+
 // The error stream gets its bytes up to the call that fails, and the status tells of that.
 fn stops_at_error<R: Threads + Sync + AllocGlobal>(
     rt: &R,
-    case: &Case<'_>,
+    telling: &Telling<'_>,
     most: usize,
     error: u64,
 ) -> Result<bool, AllocError> {
-    let line = case.error.as_bytes();
-    let taken = taken_before(&[line.len()], most, error);
+    let case = &telling.case;
+    let taken = taken_before(telling.pieces, most, error);
     let status = if taken.is_some() { 8 } else { case.status };
     let failing = Case {
         devices: Devices {
@@ -218,18 +225,18 @@ fn stops_at_error<R: Threads + Sync + AllocGlobal>(
     Ok(
         answer.status == status
             && answer.output.written() == case.output.as_bytes()
-            && holds(&answer.error, line, taken),
+            && holds(&answer.error, case.error.as_bytes(), taken),
     )
 }
 
 // Each call of the error stream fails in turn, and one after the last.
 fn stops_at_each_error<R: Threads + Sync + AllocGlobal>(
     rt: &R,
-    case: &Case<'_>,
+    telling: &Telling<'_>,
 ) -> Result<bool, AllocError> {
     for most in MOST {
-        for error in 1..above_calls(case.error.len(), most) {
-            if !stops_at_error(rt, case, most, error)? {
+        for error in 1..above_calls(telling.case.error.len(), most) {
+            if !stops_at_error(rt, telling, most, error)? {
                 return Ok(false);
             }
         }
@@ -237,45 +244,58 @@ fn stops_at_each_error<R: Threads + Sync + AllocGlobal>(
     Ok(true)
 }
 
-// A line, whose words or whose first read or write fail.
-static LINES: [Case<'static>; 4] = [
-    Case {
-        words: "run",
-        program: EMPTY,
-        status: 2,
-        error: USAGE,
-        ..RUN
+// A line, whose words or whose first read or write fail. The name of the program is offered first, and then the line, in which a
+// name is offered by itself.
+static LINES: [Telling<'static>; 4] = [
+    Telling {
+        case: Case {
+            words: "run",
+            program: EMPTY,
+            status: 2,
+            error: USAGE,
+            ..RUN
+        },
+        pieces: &[6, 32],
     },
-    Case {
-        words: "run q.gp",
-        program: EMPTY,
-        status: 7,
-        error: "gprs: read fault q.gp\n",
-        ..RUN
+    Telling {
+        case: Case {
+            words: "run q.gp",
+            program: EMPTY,
+            status: 7,
+            error: "gprs: read fault q.gp\n",
+            ..RUN
+        },
+        pieces: &[6, 11, 4, 1],
     },
-    Case {
-        program: EMPTY,
-        devices: Devices { read: 1, ..SOUND },
-        status: 7,
-        error: "gprs: read fault p.gp\n",
-        ..RUN
+    Telling {
+        case: Case {
+            program: EMPTY,
+            devices: Devices { read: 1, ..SOUND },
+            status: 7,
+            error: "gprs: read fault p.gp\n",
+            ..RUN
+        },
+        pieces: &[6, 11, 4, 1],
     },
-    Case {
-        program: EMPTY,
-        devices: Devices { output: 1, ..SOUND },
-        status: 8,
-        error: WRITE_FAULT,
-        ..RUN
+    Telling {
+        case: Case {
+            program: EMPTY,
+            devices: Devices { output: 1, ..SOUND },
+            status: 8,
+            error: WRITE_FAULT,
+            ..RUN
+        },
+        pieces: &[6, 12],
     },
 ];
 
-// Each of the cases stops at each call of its error stream.
+// Each of the calls stops at each call of its error stream.
 fn stop_at_each_error<R: Threads + Sync + AllocGlobal>(
     rt: &R,
-    cases: &[Case<'_>],
+    tellings: &[Telling<'_>],
 ) -> Result<bool, AllocError> {
-    for case in cases {
-        if !stops_at_each_error(rt, case)? {
+    for telling in tellings {
+        if !stops_at_each_error(rt, telling)? {
             return Ok(false);
         }
     }
@@ -296,7 +316,12 @@ fn stops_in_its_trace<R: Threads + Sync + AllocGlobal>(rt: &R) -> Result<bool, A
         error: text_of(whole.error.written()),
         ..STRUCK_RUN
     };
-    stops_at_each_error(rt, &case)
+    let pieces = [case.error.len()];
+    let telling = Telling {
+        case,
+        pieces: &pieces,
+    };
+    stops_at_each_error(rt, &telling)
 }
 
 #[test]
