@@ -2,22 +2,10 @@
 //! that are handed in.
 #![tactic(auto)]
 
-mod cells;
-mod counts;
-mod details;
 mod file_names;
-mod first_cells;
-mod halted;
-mod handles;
-mod indices;
-mod operators;
 mod reading;
 mod refused;
 mod running;
-mod slips;
-mod sources;
-mod spent;
-mod strikes;
 mod top;
 mod unread;
 mod usage;

@@ -12,17 +12,14 @@ ghost use Rattle.call_cases.specs.Decided.{work_of, program_in};
 ghost use Rattle.call_cases.specs.meaning.Work.{Go};
 ghost use Rattle.explain_calls.specs.meaning.Fronts.{ending_line, front, IsText};
 
-use crate::counts::push_counts;
-use crate::details::push_stuck_details;
-use crate::first_cells::push_first_cells;
-use crate::halted::Halted;
-use crate::slips::{Noted, push_slips};
-use crate::spent::push_spent_details;
-use crate::strikes::push_strikes;
 use call_cases::Request;
 use gp_base::{End, Seq, Text, Why};
 use one_thread::{PlainRun, Standing, run_reckoned, stand_before};
 use run_counts::Counting;
+use run_details::{
+    Halted, Noted, push_counts, push_first_cells, push_slips, push_spent_details, push_strikes,
+    push_stuck_details,
+};
 use run_hints::{Results, Tasks, push_crossing, push_unforked, push_unordered, push_unset};
 use run_views::{push_between, push_labelled, push_standing, why_word};
 use std::alloc::{AllocError, Global};

@@ -4,10 +4,8 @@ ghost use Rattle.text_places.specs.Tokens.{BeginsAt};
 ghost use Rattle.refusal_texts.specs.Refusals.{kind_number, IsCheckRefusal};
 
 use crate::front::{Rule, push_refusal};
-use crate::hints::check_hints;
-use crate::messages::push_message;
-use crate::subjects::{Subject, push_apart, subject_token};
 use gp_base::{Name, Seq};
+use refusal_hints::{Subject, check_hints, push_apart, push_message, subject_token};
 use rule_blame::{Blame, Told, blame};
 use std::alloc::{AllocError, Global};
 use task_ast::{CheckKind, Program, What};

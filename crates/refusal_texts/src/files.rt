@@ -1,12 +1,13 @@
 // Why a file is refused.
 ghost use Rattle.std.specs.Prelude.{◌<◌, ◌^◌, length};
 
-use crate::field_hints::is_whole;
-use crate::file_hints::{Refused, push_row_hint};
-use crate::pieces::{push_between, push_number, push_words};
 use batch_files::FileKind;
 use csv::ByteRecord;
 use gp_base::{Name, Text};
+use refusal_hints::{
+    FileUse, Refused, bytes_in, fields_of, is_whole, push_between, push_number, push_row_hint,
+    push_words,
+};
 use row_places::{
     RowPlace, bad_field, fault_field, field_start, first_like, line_from, place_of, row_of,
 };
@@ -14,33 +15,8 @@ use std::alloc::{AllocError, Global};
 use task_ast::{Head, natural};
 use text_places::{push_marked, push_shown};
 
-/// What a file is read as: the cells of a record with so many, the rows of a feed with so many fields, or faults.
-#[derive(Clone, Copy)]
-pub enum FileUse<'a> {
-    Record { name: &'a Name, size: u64 },
-    Feed { fields: u64 },
-    Faults,
-}
-
 // How many bytes of a field are told.
 const LONGEST_FIELD: usize = 40;
-
-/// How many fields a row has to have.
-pub fn fields_of(used: FileUse<'_>) -> u64 {
-    match used {
-        FileUse::Record { .. } => 2,
-        FileUse::Feed { fields } => fields,
-        FileUse::Faults => 4,
-    }
-}
-
-/// The bytes of a field.
-pub fn bytes_in(row: &ByteRecord, field: usize) -> &[u8] {
-    match row.get(field) {
-        Some(bytes) => bytes,
-        None => &[],
-    }
-}
 
 // The bytes of a field, as many as are told.
 fn field_of(row: &ByteRecord, field: usize) -> &[u8] {

@@ -2,8 +2,8 @@
 ghost use Rattle.std.specs.Prelude.{◌≡◌, ◌<◌, ◌++◌, ◌^◌, length, codes, decimal, OnOk};
 ghost use Rattle.refusal_texts.specs.Fronts.{place_text, rule_text, front_text, IsRefusal};
 
-use crate::pieces::{push_between, push_words};
 use gp_base::Name;
+use refusal_hints::{push_between, push_words};
 use std::alloc::AllocError;
 use text_places::{place_of, push_marked};
 

@@ -5,9 +5,8 @@ ghost use Rattle.refusal_texts.specs.Fronts.{rule_text, IsRefusal};
 ghost use Rattle.refusal_texts.specs.Refusals.{IsLexRefusal};
 
 use crate::front::{Rule, push_refusal};
-use crate::lex_hints::lex_hints;
-use crate::pieces::{push_between, push_words};
 use gp_base::Name;
+use refusal_hints::{lex_hints, push_between, push_words};
 use std::alloc::{AllocError, Global};
 use task_parser::LexFault;
 use text_places::{lex_place, push_shown};

@@ -8,9 +8,8 @@ ghost use Rattle.refusal_texts.specs.Fronts.{rule_text, IsRefusal};
 ghost use Rattle.refusal_texts.specs.Refusals.{IsParseRefusal};
 
 use crate::front::{Rule, push_refusal};
-use crate::kinds::push_expected;
-use crate::parse_hints::parse_hints;
 use gp_base::{Name, Seq};
+use refusal_hints::{parse_hints, push_expected, token_number};
 use std::alloc::{AllocError, Global};
 use task_parser::{Kind, ParseFault, Token};
 use text_places::{bytes_of, expected, parse_place, push_shown};
@@ -21,23 +20,13 @@ pub const NO_PROGRAM: &[u8] = b"the first token that no program goes on with";
 /// What the second says.
 pub const DEEP: &[u8] = b"the token that would be the 65th level of nesting";
 
-/// How many bytes of a token are told.
-pub const LONGEST_TOKEN: usize = 40;
+// How many bytes of a token are told.
+const LONGEST_TOKEN: usize = 40;
 
-/// The bytes of a token, as many as are told, or none where they are no part of the text.
-pub fn told_bytes<'a>(program: &'a [u8], token: &Token) -> &'a [u8] {
+// The bytes of a token, as many as are told, or none where they are no part of the text.
+fn told_bytes<'a>(program: &'a [u8], token: &Token) -> &'a [u8] {
     let bytes = bytes_of(program, token);
     &bytes[..bytes.len().min(LONGEST_TOKEN)]
-}
-
-/// The number of the token that begins at a place, or how many there are where none does.
-pub fn token_number(tokens: &[Token], at: u32) -> usize {
-    for (number, token) in tokens.iter().enumerate() {
-        if token.from == at {
-            return number;
-        }
-    }
-    tokens.len()
 }
 
 // What is said of a token that can't stand where it does.

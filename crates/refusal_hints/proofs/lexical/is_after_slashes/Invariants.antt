@@ -1,5 +1,5 @@
 use Rattle.std.proofs.Common.{◌≤◌, length}
-use Rattle.refusal_texts.proofs.lex_hints.is_after_slashes.Given as goal
+use Rattle.refusal_hints.proofs.lexical.is_after_slashes.Given as goal
 
 abbrev pub invariant-loop-from : goal.invariant-loop-from
 invariant-loop-from l = l.from ≤ length l.program

@@ -1,7 +1,7 @@
 // Hints on a row of a file that is refused.
 
 use crate::field_hints::{field_hint, has_byte, has_digit, has_letter, is_empty, is_whole};
-use crate::files::{FileUse, bytes_in, fields_of};
+use crate::file_uses::{FileUse, bytes_in, fields_of};
 use crate::odd_bytes::{UTF_16, is_utf_16, push_odd_in};
 use crate::pieces::{push_between, push_words};
 use batch_files::FileKind;

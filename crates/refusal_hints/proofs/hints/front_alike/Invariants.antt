@@ -1,5 +1,5 @@
 use Rattle.std.proofs.Common.{◌≤◌, ◌-◌, length}
-use Rattle.refusal_texts.proofs.hints.end_alike.Given as goal
+use Rattle.refusal_hints.proofs.hints.front_alike.Given as goal
 
 abbrev pub invariant-loop-count : goal.invariant-loop-count
 invariant-loop-count l = l.count ≤ length l.one

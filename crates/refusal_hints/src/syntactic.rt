@@ -1,8 +1,8 @@
 // What to write in place of a token that can't stand where it does.
 
 use crate::blocks::Place;
-use crate::parsing::token_number;
 use crate::spots::Spot;
+use crate::tokens::token_number;
 use crate::told_hints::{Hint, push_told};
 use std::alloc::{AllocError, Global};
 use task_parser::{Kind, Token};
