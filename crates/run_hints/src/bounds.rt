@@ -214,7 +214,7 @@ pub fn push_comparison(text: &mut Vec<u8>, came: Came<'_>) -> Result<(), AllocEr
 fn push_own(text: &mut Vec<u8>, came: Came<'_>) -> Result<(), AllocError> {
     text.extend_from_slice(b"hint: all parts of a condition are read, also where ")?;
     push_comparison(text, came)?;
-    text.extend_from_slice(b" does not hold: read the cell behind that test\n")
+    text.extend_from_slice(b" does not hold: read the cell after that test\n")
 }
 
 // Appends how the condition of the loop in a line lets an index come to be outside.
@@ -225,7 +225,7 @@ fn push_loop(text: &mut Vec<u8>, line: u32, came: Came<'_>) -> Result<(), AllocE
     text.extend_from_slice(if came.holds {
         b", and "
     } else {
-        b", but behind that test "
+        b", but after that test "
     })?;
     text.extend_from_slice(came.bound.name.as_slice())?;
     push_labelled(text, b" came to ", came.value)?;

@@ -285,11 +285,11 @@ fn push_one(
     push_labelled(text, b"hint: thread ", found.read.thread.0)?;
     text.extend_from_slice(b" reads ")?;
     push_record(text, heads, cell as u64)?;
-    push_labelled(text, b" behind line ", found.read.line)?;
+    push_labelled(text, b" after line ", found.read.line)?;
     push_labelled(text, b", and thread ", found.written.thread.0)?;
     push_labelled(
         text,
-        b" has a write of it later, behind line ",
+        b" has a write of it later, after line ",
         found.written.line,
     )?;
     text.extend_from_slice(b": no join or barrier orders the two, only their turns")

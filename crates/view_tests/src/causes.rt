@@ -34,7 +34,7 @@ task main() {
 const EARLY_TOLD: &str = "ok
 13 subthreads, 3 threads, 3 locks taken; at most 2 subthreads side by side, as threads, locks, forks and joins allow
 arithmetic: exact in every line that ran
-hint: thread 2 reads r[1] behind line 15, and thread 1 has a write of it later, behind line 6: no join or barrier orders the two, only their turns
+hint: thread 2 reads r[1] after line 15, and thread 1 has a write of it later, after line 6: no join or barrier orders the two, only their turns
 ";
 
 // Main reads r[2] at position 3, r[1] at 7 and r[0] at 10; thread 1 writes r[0] at 4, r[1] at 9 and r[2] at 13.
@@ -67,7 +67,7 @@ task main() {
 const BEFORE_TOLD: &str = "ok
 16 subthreads, 2 threads, 6 locks taken; at most 2 subthreads side by side, as threads, locks, forks and joins allow
 arithmetic: exact in every line that ran
-hint: thread 0 reads r[1] behind line 17, and thread 1 has a write of it later, behind line 6: no join or barrier orders the two, only their turns; so it is with 1 more cell
+hint: thread 0 reads r[1] after line 17, and thread 1 has a write of it later, after line 6: no join or barrier orders the two, only their turns; so it is with 1 more cell
 ";
 
 // The barrier stands between the read and the write.

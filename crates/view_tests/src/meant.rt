@@ -246,7 +246,7 @@ const BEHIND_TOLD: &str = "stuck index thread 0 line 10
 bank[k] with k = 2; bank has 2 cells, 0 to 1
       lock bank[k];
            ^
-hint: the loop in line 5 goes on while i < 2, but behind that test i came to 2
+hint: the loop in line 5 goes on while i < 2, but after that test i came to 2
 thread 0: i = 2, k = 2, n = 0
 3 subthreads, 1 thread, 1 lock taken; at most 1 subthread side by side, as threads, locks, forks and joins allow
 arithmetic: exact in every line that ran
@@ -263,7 +263,7 @@ const WHOLE_TOLD: &str = "stuck index thread 0 line 4
 moves[2, 0]; moves has 2 rows, 0 to 1, of 2 fields, 0 to 1
   while i < rows(moves) and moves[i, 0] > 0 { i = i + 1; }
                             ^
-hint: all parts of a condition are read, also where i < 2 does not hold: read the cell behind that test
+hint: all parts of a condition are read, also where i < 2 does not hold: read the cell after that test
 thread 0: i = 2
 1 subthread, 1 thread, 0 locks taken; at most 1 subthread side by side, as threads, locks, forks and joins allow
 arithmetic: exact in every line that ran
