@@ -23,17 +23,17 @@ live_share h = go h.share h.ticket
 abbrev pub live_of : ℕ → Option ℕ → ℕ
 live_of n o = elim o [ None ↦ n | Some t ↦ 0 ]
 
-pub live_cut : (h : Hand) → 2 ≤ h.share → live (hand_kept h) + live (hand_given h) ≤ live h + 0
+pub live_cut : (h : Hand) → 2 ≤ h.share → live (hand_kept h) + live (hand_given h) ≤ live h
 live_cut h big = go h.ticket
   where
-    go : (o : Option ℕ) → live_of (h.share - 1) o + live_of 1 o ≤ live_of h.share o + 0
+    go : (o : Option ℕ) → live_of (h.share - 1) o + live_of 1 o ≤ live_of h.share o
     go None = omega arith
     go (Some t) = omega arith
 
-pub live_both : (h g : Hand) → live (hand_both h g) + 0 ≤ live h + live g
+pub live_both : (h g : Hand) → live (hand_both h g) ≤ live h + live g
 live_both h g = go h.ticket g.ticket
   where
-    go : (a b : Option ℕ) → live_of (h.share + g.share) (ticket_either a b) + 0 ≤ live_of h.share a + live_of g.share b
+    go : (a b : Option ℕ) → live_of (h.share + g.share) (ticket_either a b) ≤ live_of h.share a + live_of g.share b
     go None None = omega arith
     go None (Some t) = omega arith
     go (Some t) b = omega arith

@@ -1,3 +1,4 @@
+pub mod BoardHands
 pub mod Collecting
 pub mod Counts
 pub mod DeskLists
@@ -5,6 +6,7 @@ pub mod Draining
 pub mod FactsHold
 pub mod Hands
 pub mod LaidOut
+pub mod OneView
 pub mod Places
 pub mod Seats
 pub mod Stages

@@ -4,7 +4,7 @@
 -- rule is shown anew.
 use Rattle.std.proofs.Common.{◌≡◌, ◌≢◌, ℕ, ◌+◌, ◌%◌, ◌^◌, ◌<◌, ◌≤◌, eqb, Bool, true, false, cond, List, [], ◌∷◌, ◌++◌, length, get_or, set, sym, refl, ap, ◌∙◌, subst, arith, eq-eqb, length-set, get_or-set_other, get_or-set_same, lt_of_not-le, true≢false}
 use Rattle.std.specs.Prelude.{sum_by, All, slice_get, Option, Some, None, IfSome}
-use Rattle.std.proofs.lemmas.Option.{slice_get_within, get_or_from_slice_get}
+use Rattle.std.proofs.lemmas.Option.{slice_get_within}
 use mathlib.Core.Option.{some, none, some-injective, some-ne-none}
 use mathlib.Core.Option as maybe
 use mathlib.Core.Logic.{dite}
@@ -21,8 +21,9 @@ use Rattle.desk_board.specs.declared.view.Slot.{Slot}
 use Rattle.desk_board.specs.declared.view.Slot.TheVariants.{Todo, Done}
 use Rattle.desk_board.specs.Told.{without, hand_drew, hand_ended, hand_finished, book_looked, book_took, DrewFrom, drew, finished, looked, IsRunAt, NoneTwice}
 use Rattle.desk_board.specs.Views.{took, TookFrom}
-use Rattle.desk_board.proofs.Tallies.{tally_set, tally_same, tally_one_more, tally_part, tally_alone, tally_le, times_append, times_more, times_else, without_same, without_else, without_le, all_from_times}
+use Rattle.desk_board.proofs.Tallies.{tally_set, tally_same, tally_one_more, tally_part, tally_le, times_append, times_more, times_else, without_same, without_else, without_le, all_from_times}
 use Rattle.desk_board.proofs.Hands.{ended_stays, live_none, live_share}
+use Rattle.desk_board.proofs.OneView.{job_fits, told_about, told_inside, alone_got, alone_held, alone_taken}
 use Rattle.desk_board.proofs.Places.{got, found_set, each_set}
 use Rattle.desk_board.proofs.Stages.{stage_stays, is_waiting, is_drawn, is_done, past_done, word_low, drawn_at_most, drawn_past, is_below}
 
@@ -72,23 +73,23 @@ module _ {J W R : Type 0} (fits : W → J → Type 0) (is_run : W → J → R �
       ))
 
   view_stays : (words words' : List ℕ) (v : V) → get_or words 0 0 ≤ get_or words' 0 0
-      → ((k : ℕ) → 1 ≤ get_or words (k + 1) 0 → 1 ≤ get_or words' (k + 1) 0) → ViewOk (about_of plan) words v
-      → ViewOk (about_of plan) words' v
+      → ((k : ℕ) → 1 ≤ get_or words (k + 1) 0 → 1 ≤ get_or words' (k + 1) 0) → ViewOk is_run (about_of plan) words v
+      → ViewOk is_run (about_of plan) words' v
   view_stays words words' v up more ok = record {
     same = ok.same;
     knows = ok.knows;
     idle = ok.idle;
     own = ok.own;
-    ended = ended_stays v.hand.ticket (length jobs) (get_or words 0 0) (get_or words' 0 0) up ok.ended;
+    hand = ended_stays v.hand.ticket (length jobs) (get_or words 0 0) (get_or words' 0 0) up ok.hand;
     others = ok.others;
     seen = λ k h. more k (ok.seen k h);
   }
 
   views_after : (s : St) (r : Rule s) (words' : List ℕ) (id : ℕ) (w : V) → get_or s.words 0 0 ≤ get_or words' 0 0
-      → ((k : ℕ) → 1 ≤ get_or s.words (k + 1) 0 → 1 ≤ get_or words' (k + 1) 0) → ViewOk (about_of plan) words' w
-      → (j : ℕ) (x : V) → get_elem? (set s.views id w) j ≡ some x → ViewOk (about_of plan) words' x
+      → ((k : ℕ) → 1 ≤ get_or s.words (k + 1) 0 → 1 ≤ get_or words' (k + 1) 0) → ViewOk is_run (about_of plan) words' w
+      → (j : ℕ) (x : V) → get_elem? (set s.views id w) j ≡ some x → ViewOk is_run (about_of plan) words' x
   views_after s r words' id w up more mine =
-      each_set (ViewOk (about_of plan) words') s.views id w mine (λ j x e. view_stays s.words words' x up more (r.each_view j x e))
+      each_set (ViewOk is_run (about_of plan) words') s.views id w mine (λ j x e. view_stays s.words words' x up more (r.each_view j x e))
 
   -- the desks that a seat has drawn lie below the counter
   below_counter : (s : St) (r : Rule s) (id : ℕ) (v : V) → get_elem? s.views id ≡ some v → All (λ d. d < get_or s.words 0 0) v.hand.drawn
@@ -107,14 +108,6 @@ module _ {J W R : Type 0} (fits : W → J → Type 0) (is_run : W → J → R �
   -- no view has a desk twice as drawn
   pub none_twice : (s : St) (r : Rule s) (id : ℕ) (v : V) → get_elem? s.views id ≡ some v → NoneTwice v.hand.drawn
   none_twice s r id v at k = omega (arith, drawn_by_all s r k, tally_part (λ (x : V). times k x.hand.drawn) s.views id v at)
-
-  told_about : (s : St) (r : Rule s) (id : ℕ) (v : V) (about : About J W) → get_elem? s.views id ≡ some v → v.about ≡ Some about
-      → about ≡ about_of plan
-  told_about s r id v about at is = subst (λ (o : Option (About J W)). IfSome o (λ a. a ≡ about_of plan)) is (r.each_view id v at).same
-
-  job_fits : (s : St) (r : Rule s) (k : ℕ) (job : J) → slice_get jobs k ≡ Some job → fits plan.with.value job
-  job_fits s r k job has =
-      subst (fits plan.with.value) (get_or_from_slice_get jobs k job job has) (r.all_fit k job (slice_get_within jobs k job has))
 
   -- a ticket below the number of jobs
   draws_desk : (s : St) (r : Rule s) (id : ℕ) (v : V) (carried : List (ℕ × Slot J R)) (job : J) → get_elem? s.views id ≡ some v
@@ -135,7 +128,7 @@ module _ {J W R : Type 0} (fits : W → J → Type 0) (is_run : W → J → R �
       λ j. get_or-set_other s.words 0 (j + 1) (n + 1) 0 (λ e. omega arith) in
       let is_live = live_none v.hand fresh in let lives : live w.hand ≡ live v.hand = refl in
       let parts : live v.hand ≤ sum_by (λ x. live x.hand) s.views = tally_part (λ x. live x.hand) s.views id v at in
-      let all_lives = tally_same (λ x. live x.hand) s.views id v w at lives in let low = r.low in (
+      let all_lives = tally_same (λ x. live x.hand) s.views id v w at lives in let low = r.beside in (
         st.2,
         record {
           all_fit = r.all_fit;
@@ -144,7 +137,7 @@ module _ {J W R : Type 0} (fits : W → J → Type 0) (is_run : W → J → R �
           deep = length-set s.homes n none ∙ deep;
           shares = tally_same (λ x. x.hand.share) s.views id v w at refl ∙ r.shares;
           clerks = tally_same (λ x. x.book.clerk) s.views id v w at refl ∙ r.clerks;
-          low =
+          beside =
               (let most = tally_le (λ (x : V). live x.hand) (λ x. x.hand.share) s.views (λ x. live_share x.hand) in let all = r.shares in
               omega (arith, counter, all_lives, most, all));
           beyond =
@@ -173,7 +166,7 @@ module _ {J W R : Type 0} (fits : W → J → Type 0) (is_run : W → J → R �
             knows = old.knows;
             idle = λ z. absurd (omega arith);
             own = λ k. (let z = old.own k in omega (arith, z, times_append k v.hand.held (n ∷ []), times_append k v.hand.drawn (n ∷ [])));
-            ended = subst (λ (o : Option ℕ). IfSome o (λ t. (length jobs ≤ t) × (length jobs ≤ get_or words' 0 0))) (sym fresh) tt;
+            hand = subst (λ (o : Option ℕ). IfSome o (λ t. (length jobs ≤ t) × (length jobs ≤ get_or words' 0 0))) (sym fresh) tt;
             others = old.others;
             seen = λ k h. (let z = old.seen k h in omega (arith, words_same k, z));
           };
@@ -192,7 +185,7 @@ module _ {J W R : Type 0} (fits : W → J → Type 0) (is_run : W → J → R �
       λ j. get_or-set_other s.words 0 (j + 1) (n + 1) 0 (λ e. omega arith) in
       let is_live = live_none v.hand fresh in
       let lives = tally_set (λ (x : V). live x.hand) s.views id v w at in
-      let low = r.low in
+      let low = r.beside in
       record {
         all_fit = r.all_fit;
         few = r.few;
@@ -200,7 +193,7 @@ module _ {J W R : Type 0} (fits : W → J → Type 0) (is_run : W → J → R �
         deep = r.deep;
         shares = tally_same (λ x. x.hand.share) s.views id v w at refl ∙ r.shares;
         clerks = tally_same (λ x. x.book.clerk) s.views id v w at refl ∙ r.clerks;
-        low = omega (arith, counter, is_live, lives, low, part);
+        beside = omega (arith, counter, is_live, lives, low, part);
         beyond = λ j l. tally_same (λ x. times j x.hand.drawn) s.views id v w at refl ∙ r.beyond j l;
         each_desk =
             desks_after s r words' s.homes id v w (length jobs) at (omega arith) (λ j ne l a. absurd (omega arith)) (λ j ne. words_same j)
@@ -211,7 +204,7 @@ module _ {J W R : Type 0} (fits : W → J → Type 0) (is_run : W → J → R �
           knows = old.knows;
           idle = old.idle;
           own = old.own;
-          ended = (past, omega arith);
+          hand = (past, omega arith);
           others = old.others;
           seen = λ k h. (let z = old.seen k h in omega (arith, words_same k, z));
         };
@@ -220,7 +213,7 @@ module _ {J W R : Type 0} (fits : W → J → Type 0) (is_run : W → J → R �
   pub draws : (slots id : ℕ) (me : Known) → me.0.hand.ticket ≡ None → 1 ≤ me.0.hand.share
       → Allows Rule slots id me 0 (λ n. (n + 1) % 2 ^ 64) (drew fits (step slots 0 1 0 none) me)
   draws slots id me fresh part s r deep at in_range =
-      let n : ℕ = get_or s.words 0 0 in let v = me.0 in let few = r.few in let low = r.low in let is_live = live_none v.hand fresh in
+      let n : ℕ = get_or s.words 0 0 in let v = me.0 in let few = r.few in let low = r.beside in let is_live = live_none v.hand fresh in
       let parts : live v.hand ≤ sum_by (λ x. live x.hand) s.views = tally_part (λ x. live x.hand) s.views id v at in
       let next : n + 1 ≡ (n + 1) % 18446744073709551616 = omega (arith, few, low, is_live, parts, part) in
       dite (dec_le (length jobs) n)
@@ -229,7 +222,7 @@ module _ {J W R : Type 0} (fits : W → J → Type 0) (is_run : W → J → R �
         keeps,
         tt,
         subst (λ (x : ℕ). Rule (stepped s 0 x id me.1 w keeps)) next (ends_pass s r id v me.1 at fresh part past),
-        λ about is. subst (λ (a : About J W). DrewFrom fits a me n (w, me.1)) (sym (told_about s r id v about at is))
+        λ about is. subst (λ (a : About J W). DrewFrom fits a me n (w, me.1)) (sym (told_about r id v at about is))
             ((λ l. absurd (omega arith)), λ _. refl),
       ))
       (λ no. let w : V = record v { hand = hand_drew n v.hand } in let g = got jobs n (lt_of_not-le no) in
@@ -238,11 +231,11 @@ module _ {J W R : Type 0} (fits : W → J → Type 0) (is_run : W → J → R �
         takes n (Todo g.0),
         did.0,
         subst (λ (x : ℕ). Rule (stepped s 0 x id me.1 w (takes n (Todo g.0)))) next did.1,
-        λ about is. subst (λ (a : About J W). DrewFrom fits a me n (w, (n, Todo g.0) ∷ me.1)) (sym (told_about s r id v about at is)) (
+        λ about is. subst (λ (a : About J W). DrewFrom fits a me n (w, (n, Todo g.0) ∷ me.1)) (sym (told_about r id v at about is)) (
           (λ _. (
             g.0,
             g.1,
-            job_fits s r n g.0 g.1,
+            job_fits r n g.0 g.1,
             refl,
             below_counter s r id v at,
             none_twice (stepped s 0 (n + 1) id me.1 w (takes n (Todo g.0))) did.1 id w (found_set s.views id v w at),
@@ -252,17 +245,17 @@ module _ {J W R : Type 0} (fits : W → J → Type 0) (is_run : W → J → R �
         ),
       ))
 
-  finishes_desk : (slots id : ℕ) (v : V) (carried : List (ℕ × Slot J R)) (k : ℕ) (run : R) (about : About J W) (job : J)
-      → v.about ≡ Some about → slice_get about.jobs k ≡ Some job → is_run about.with job run → 1 ≤ times k v.hand.held
+  pub finishes : (slots id : ℕ) (v : V) (carried : List (ℕ × Slot J R)) (k : ℕ) (run : R) (about : About J W) → v.about ≡ Some about
+      → IsRunAt is_run about k run → 1 ≤ times k v.hand.held
       → Allows Rule slots id (v, (k, Done run) ∷ carried) (k + 1) (λ _. 1)
       (λ _. finished (step slots (k + 1) 1 0 none) (v, (k, Done run) ∷ carried) 1)
-  finishes_desk slots id v carried k run about job is has ran mine s r deep' at in_range =
+  finishes slots id v carried k run about is ran mine s r deep' at in_range =
       let w : V = record v { hand = hand_finished k v.hand } in
       let words' : List ℕ = set s.words (k + 1) 1 in
       let homes' : Homes = set s.homes k (some (Done run)) in
       let wide = r.wide in let deep = r.deep in let old = r.each_view id v at in
-      let known : (slice_get jobs k ≡ Some job) × is_run plan.with.value job run =
-      subst (λ (a : About J W). (slice_get a.jobs k ≡ Some job) × is_run a.with job run) (told_about s r id v about at is) (has, ran) in
+      let job = ran.0 in let known : (slice_get jobs k ≡ Some job) × is_run plan.with.value job run =
+      subst (λ (a : About J W). (slice_get a.jobs k ≡ Some job) × is_run a.with job run) (told_about r id v at about is) (ran.1, ran.2) in
       let inside : k < length jobs = slice_get_within jobs k job known.0 in
       let helds : times k v.hand.held ≤ sum_by (λ x. times k x.hand.held) s.views = tally_part (λ x. times k x.hand.held) s.views id v at in
       let was = r.each_desk k job known.0 in let st = is_drawn is_run plan.with.value k job _ _ _ _ _ _ (omega arith) was.0 was.1 in
@@ -273,7 +266,7 @@ module _ {J W R : Type 0} (fits : W → J → Type 0) (is_run : W → J → R �
       let rises : (j : ℕ) → 1 ≤ get_or s.words (j + 1) 0 → 1 ≤ get_or words' (j + 1) 0 =
       λ j h. dite (ℕ_discrete j k) (λ e. subst (λ (z : ℕ). 1 ≤ get_or words' (z + 1) 0) (sym e) (omega (arith, here)))
       (λ ne. omega (arith, else_same j ne, h)) in
-      let low = r.low in
+      let low = r.beside in
       let lives = tally_same (λ x. live x.hand) s.views id v w at refl in
       let moved = tally_set (λ (x : V). times k x.hand.held) s.views id v w at in
       let gone : times k w.hand.held ≡ 0 = without_same k v.hand.held in let once = st.4 in let under = st.0 in (
@@ -287,7 +280,7 @@ module _ {J W R : Type 0} (fits : W → J → Type 0) (is_run : W → J → R �
           deep = length-set s.homes k (some (Done run)) ∙ deep;
           shares = tally_same (λ x. x.hand.share) s.views id v w at refl ∙ r.shares;
           clerks = tally_same (λ x. x.book.clerk) s.views id v w at refl ∙ r.clerks;
-          low = omega (arith, counter, low, lives);
+          beside = omega (arith, counter, low, lives);
           beyond = λ j l. tally_same (λ x. times j x.hand.drawn) s.views id v w at refl ∙ r.beyond j l;
           each_desk =
               desks_after s r words' homes' id v w k at (omega (arith, counter)) (λ j ne l a. omega (arith, counter, a)) else_same
@@ -309,7 +302,7 @@ module _ {J W R : Type 0} (fits : W → J → Type 0) (is_run : W → J → R �
             knows = old.knows;
             idle = λ z. (let i = old.idle z in (i.0, ap (without k) i.1));
             own = λ j. (let z = old.own j in omega (arith, z, without_le j k v.hand.held));
-            ended = ended_stays v.hand.ticket (length jobs) (get_or s.words 0 0) (get_or words' 0 0) (omega (arith, counter)) old.ended;
+            hand = ended_stays v.hand.ticket (length jobs) (get_or s.words 0 0) (get_or words' 0 0) (omega (arith, counter)) old.hand;
             others = old.others;
             seen = λ j h. rises j (old.seen j h);
           };
@@ -317,13 +310,6 @@ module _ {J W R : Type 0} (fits : W → J → Type 0) (is_run : W → J → R �
         λ j e. let same : k ≡ j = omega arith in
             subst (λ (z : ℕ). (w, carried) ≡ (let m : Known = (record v { hand = hand_finished z v.hand }, carried) in m)) same refl,
       )
-
-  pub finishes : (slots id : ℕ) (me : Known) (v : V) (carried : List (ℕ × Slot J R)) (k : ℕ) (run : R) (about : About J W)
-      → me ≡ (v, (k, Done run) ∷ carried) → v.about ≡ Some about → IsRunAt is_run about k run → 1 ≤ times k v.hand.held
-      → Allows Rule slots id me (k + 1) (λ _. 1) (λ _. finished (step slots (k + 1) 1 0 none) me 1)
-  finishes slots id me v carried k run about is of ran held =
-      subst (λ (m : Known). Allows Rule slots id m (k + 1) (λ _. 1) (λ _. finished (step slots (k + 1) 1 0 none) m 1)) (sym is)
-      (finishes_desk slots id v carried k run about ran.0 of ran.1 ran.2 held)
 
   -- no desk is touched: the words are read, and one book changes
   reads : (s : St) (r : Rule s) (i id : ℕ) (v : V) (book : Book) → get_elem? s.views id ≡ some v → book.clerk ≡ v.book.clerk
@@ -337,7 +323,7 @@ module _ {J W R : Type 0} (fits : W → J → Type 0) (is_run : W → J → R �
         deep = r.deep;
         shares = tally_same (λ x. x.hand.share) s.views id v w at refl ∙ r.shares;
         clerks = tally_same (λ x. x.book.clerk) s.views id v w at clerk ∙ r.clerks;
-        low = (let low = r.low in let lives = tally_same (λ x. live x.hand) s.views id v w at refl in omega (arith, low, lives));
+        beside = (let low = r.beside in let lives = tally_same (λ x. live x.hand) s.views id v w at refl in omega (arith, low, lives));
         beyond = λ j l. tally_same (λ x. times j x.hand.drawn) s.views id v w at refl ∙ r.beyond j l;
         each_desk =
             desks_after s r s.words s.homes id v w (length jobs) at (omega arith) (λ j ne l a. a) (λ j ne. refl) (λ j ne. refl)
@@ -348,7 +334,7 @@ module _ {J W R : Type 0} (fits : W → J → Type 0) (is_run : W → J → R �
           knows = λ none. (let was = old.knows none in (was.0, clerk ∙ was.1));
           idle = old.idle;
           own = old.own;
-          ended = old.ended;
+          hand = old.hand;
           others = λ z. taken ∙ old.others (sym clerk ∙ z);
           seen = saw;
         };
@@ -358,7 +344,7 @@ module _ {J W R : Type 0} (fits : W → J → Type 0) (is_run : W → J → R �
       → Allows Rule slots id me (k + 1) (λ n. n) (looked (step slots (k + 1) 0 0 none) me)
   looks slots id me k about is inside' s r deep at in_range =
       let v = me.0 in let n : ℕ = get_or s.words (k + 1) 0 in let old = r.each_view id v at in
-      let inside : k < length jobs = subst (λ (a : About J W). k < length a.jobs) (told_about s r id v about at is) inside' in
+      let inside : k < length jobs = told_inside r id v at about is k inside' in
       let g = got jobs k inside in let was = r.each_desk k g.0 g.1 in
       let saw : (b : Bool) → eqb n 0 ≡ b → (j : ℕ) → 0 < times j (cond b v.book.seen (v.book.seen ++ k ∷ []))
       → 1 ≤ get_or s.words (j + 1) 0 =
@@ -378,24 +364,17 @@ module _ {J W R : Type 0} (fits : W → J → Type 0) (is_run : W → J → R �
           subst (λ (z : ℕ). (let m : Known = (record v { book = book_looked k n v.book }, me.1) in m)
               ≡ (record v { book = book_looked z n v.book }, me.1)) same refl,
           word_low is_run plan.with.value k g.0 _ _ _ _ _ _ was.0 was.1,
-          λ whole. let alone : sum_by (λ (x : V). times k x.hand.held) s.views ≡ times k v.hand.held =
-              tally_alone (λ x. x.hand.share) (λ x. times k x.hand.held) s.views id v at (r.shares ∙ sym whole.0)
-              (λ i y a z. ap (times k) ((r.each_view i y a).idle z).1) in
-              let none : times k v.hand.held ≡ 0 = ap (times k) whole.2 in
+          λ whole. let past =
+              (subst (λ (o : Option ℕ). IfSome o (λ t. (length jobs ≤ t) × (length jobs ≤ get_or s.words 0 0)))
+              whole.1.1 old.hand).1 in
+              past_done is_run plan.with.value k g.0 _ _ _ _ _ _ (omega arith)
+              (alone_held r id v at whole.0 k ∙ ap (times k) whole.2) was.0 was.1,
+          λ about' is' whole d l. let below = told_inside r id v at about' is' d l in
               let past =
               (subst (λ (o : Option ℕ). IfSome o (λ t. (length jobs ≤ t) × (length jobs ≤ get_or s.words 0 0)))
-              whole.1.1 old.ended).1 in
-              past_done is_run plan.with.value k g.0 _ _ _ _ _ _ (omega arith) (alone ∙ none) was.0 was.1,
-          λ about' is' whole d l. let below : d < length jobs =
-              subst (λ (a : About J W). d < length a.jobs) (told_about s r id v about' at is') l in
-              let alone : drawns s.views d ≡ times d v.hand.drawn =
-              tally_alone (λ x. x.hand.share) (λ x. times d x.hand.drawn) s.views id v at (r.shares ∙ sym whole.0)
-              (λ i y a z. ap (times d) ((r.each_view i y a).idle z).0) in
-              let past =
-              (subst (λ (o : Option ℕ). IfSome o (λ t. (length jobs ≤ t) × (length jobs ≤ get_or s.words 0 0)))
-              whole.1.1 old.ended).1 in
+              whole.1.1 old.hand).1 in
               let y = got jobs d below in let then = r.each_desk d y.0 y.1 in
-              sym alone ∙ drawn_past is_run plan.with.value d y.0 _ _ _ _ _ _ (omega arith) then.0 then.1,
+              sym (alone_got r id v at whole.0 d) ∙ drawn_past is_run plan.with.value d y.0 _ _ _ _ _ _ (omega arith) then.0 then.1,
         ),
       )
 
@@ -404,12 +383,10 @@ module _ {J W R : Type 0} (fits : W → J → Type 0) (is_run : W → J → R �
       → Allows Rule slots id me (k + 1) (λ _. 2) (λ _. took is_run (step slots (k + 1) 2 0 none) me 2)
   collects slots id me k about is inside' clerk saw fresh s r deep' at in_range =
       let v = me.0 in let w : V = record v { book = book_took k v.book } in let old = r.each_view id v at in
-      let inside : k < length jobs = subst (λ (a : About J W). k < length a.jobs) (told_about s r id v about at is) inside' in
+      let inside : k < length jobs = told_inside r id v at about is k inside' in
       let words' : List ℕ = set s.words (k + 1) 2 in let homes' : Homes = set s.homes k none in let wide = r.wide in let deep = r.deep in
       let g = got jobs k inside in let was = r.each_desk k g.0 g.1 in
-      let alone : sum_by (λ (x : V). times k x.book.taken) s.views ≡ times k v.book.taken =
-      tally_alone (λ x. x.book.clerk) (λ x. times k x.book.taken) s.views id v at (r.clerks ∙ sym clerk)
-      (λ i y a z. ap (times k) ((r.each_view i y a).others z)) in
+      let alone = alone_taken r id v at clerk k in
       let st = is_done is_run plan.with.value k g.0 _ _ _ _ _ _ (old.seen k saw) (alone ∙ fresh) was.0 was.1 in let run = st.2.0 in
       let counter : get_or words' 0 0 ≡ get_or s.words 0 0 = get_or-set_other s.words (k + 1) 0 2 0 (λ e. omega arith) in
       let here : get_or words' (k + 1) 0 ≡ 2 = get_or-set_same s.words (k + 1) 2 0 (omega arith) in
@@ -418,7 +395,7 @@ module _ {J W R : Type 0} (fits : W → J → Type 0) (is_run : W → J → R �
       let rises : (j : ℕ) → 1 ≤ get_or s.words (j + 1) 0 → 1 ≤ get_or words' (j + 1) 0 =
       λ j h. dite (ℕ_discrete j k) (λ e. subst (λ (z : ℕ). 1 ≤ get_or words' (z + 1) 0) (sym e) (omega (arith, here)))
       (λ ne. omega (arith, else_same j ne, h)) in
-      let low = r.low in let lives = tally_same (λ x. live x.hand) s.views id v w at refl in let under = st.0 in (
+      let low = r.beside in let lives = tally_same (λ x. live x.hand) s.views id v w at refl in let under = st.0 in (
         w,
         takes k (Done run),
         st.2.1,
@@ -429,7 +406,7 @@ module _ {J W R : Type 0} (fits : W → J → Type 0) (is_run : W → J → R �
           deep = length-set s.homes k none ∙ deep;
           shares = tally_same (λ x. x.hand.share) s.views id v w at refl ∙ r.shares;
           clerks = tally_same (λ x. x.book.clerk) s.views id v w at refl ∙ r.clerks;
-          low = omega (arith, counter, low, lives);
+          beside = omega (arith, counter, low, lives);
           beyond = λ j l. tally_same (λ x. times j x.hand.drawn) s.views id v w at refl ∙ r.beyond j l;
           each_desk =
               desks_after s r words' homes' id v w k at (omega (arith, counter)) (λ j ne l a. omega (arith, counter, a)) else_same
@@ -451,12 +428,12 @@ module _ {J W R : Type 0} (fits : W → J → Type 0) (is_run : W → J → R �
             knows = old.knows;
             idle = old.idle;
             own = old.own;
-            ended = ended_stays v.hand.ticket (length jobs) (get_or s.words 0 0) (get_or words' 0 0) (omega (arith, counter)) old.ended;
+            hand = ended_stays v.hand.ticket (length jobs) (get_or s.words 0 0) (get_or words' 0 0) (omega (arith, counter)) old.hand;
             others = λ z. absurd (omega arith);
             seen = λ j h. rises j (old.seen j h);
           };
         },
         λ j about' e is'. let same : k ≡ j = omega arith in
             subst (λ (z : ℕ × About J W). TookFrom is_run z.1 z.0 me (w, (k, Done run) ∷ me.1))
-            (λ i. (same i, sym (told_about s r id v about' at is') i)) (g.0, run, g.1, st.2.2, refl),
+            (λ i. (same i, sym (told_about r id v at about' is') i)) (g.0, run, g.1, st.2.2, refl),
       )

@@ -83,18 +83,46 @@ module _ {J W R : Type 0} (is_run : W → J → R → Type 0) (with : W) where
         × (helds ≡ 0) × (takens ≡ 0)
     AtStage collected = (k < counter) × (word ≡ 2) × (home ≡ some none) × (drawns ≡ 1) × (helds ≡ 0) × (takens ≡ 1)
 
+-- what differs between kinds of boards
+--   share, got, held: the share of a hand, the desks that it has got from the board, and those of them that it holds; back: where a
+--   desk's word is at least this its run is back; HandOk: what holds besides of a hand, by the number of jobs and the words;
+--   DeskOk: what holds of a desk with its job; Beside: what holds besides of a state, by the number of jobs
+pub record BoardKind (J W R H : Type 0) : Type 1 where
+  pub share : H → ℕ
+  pub got : H → List ℕ
+  pub held : H → List ℕ
+  pub back : ℕ
+  pub HandOk : ℕ → List ℕ → H → Type 0
+  pub DeskOk : W → State (Slot J R) (SeatView J W H) → ℕ → J → Type 0
+  pub Beside : ℕ → State (Slot J R) (SeatView J W H) → Type 0
+
 -- what holds of one view
 --   same: it has the jobs of the board; knows: a pass with a share has them, and so has the clerk; idle: without a share it has no
---   desk; own: it holds only desks that it drew; ended: its pass has ended only where the tickets passed the last desk;
---   others: only the clerk takes; seen: what was seen done is done or collected
-pub record ViewOk {J W : Type 0} (about : About J W) (words : List ℕ) (v : View J W) : Type 0 where
+--   desk; own: it holds only desks that it got; others: only the clerk takes; seen: what was seen done has its run back
+pub record SeatOk {J W R H : Type 0} (kind : BoardKind J W R H) (about : About J W) (words : List ℕ) (v : SeatView J W H) : Type 0 where
   pub same : IfSome v.about (λ a. a ≡ about)
-  pub knows : v.about ≡ None → (v.hand.share ≡ 0) × (v.book.clerk ≡ 0)
-  pub idle : v.hand.share ≡ 0 → (v.hand.drawn ≡ []) × (v.hand.held ≡ [])
-  pub own : (k : ℕ) → times k v.hand.held ≤ times k v.hand.drawn
-  pub ended : IfSome v.hand.ticket (λ t. (length about.jobs ≤ t) × (length about.jobs ≤ slice_index words 0))
+  pub knows : v.about ≡ None → (kind.share v.hand ≡ 0) × (v.book.clerk ≡ 0)
+  pub idle : kind.share v.hand ≡ 0 → (kind.got v.hand ≡ []) × (kind.held v.hand ≡ [])
+  pub own : (k : ℕ) → times k (kind.held v.hand) ≤ times k (kind.got v.hand)
+  pub hand : kind.HandOk (length about.jobs) words v.hand
   pub others : v.book.clerk ≡ 0 → v.book.taken ≡ []
-  pub seen : (k : ℕ) → 0 < times k v.book.seen → 1 ≤ slice_index words (k + 1)
+  pub seen : (k : ℕ) → 0 < times k v.book.seen → kind.back ≤ slice_index words (k + 1)
+
+-- the rule of a board of some kind
+--   few: so a counter can't wrap; wide, deep: there is a word and a slot for each desk; shares: the passes share 64 parts;
+--   clerks: there is one clerk; beyond: nobody has got a desk that isn't there
+pub record KeptBy {J W R H : Type 0} (kind : BoardKind J W R H) (fits : W → J → Type 0) (plan : BoardSetup J W)
+    (s : State (Slot J R) (SeatView J W H)) : Type 0 where
+  pub all_fit : All (fits plan.with.value) plan.jobs.value.items
+  pub few : length plan.jobs.value.items ≤ 65536
+  pub wide : length s.words ≡ length plan.jobs.value.items + 1
+  pub deep : length s.homes ≡ length plan.jobs.value.items
+  pub shares : sum_by (λ v. kind.share v.hand) s.views ≡ 64
+  pub clerks : sum_by (λ v. v.book.clerk) s.views ≡ 1
+  pub beyond : (k : ℕ) → length plan.jobs.value.items ≤ k → sum_by (λ v. times k (kind.got v.hand)) s.views ≡ 0
+  pub beside : kind.Beside (length plan.jobs.value.items) s
+  pub each_desk : (k : ℕ) (job : J) → slice_get plan.jobs.value.items k ≡ Some job → kind.DeskOk plan.with.value s k job
+  pub each_view : (j : ℕ) (v : SeatView J W H) → get_elem? s.views j ≡ some v → SeatOk kind (about_of plan) s.words v
 
 module _ {J W R : Type 0} (is_run : W → J → R → Type 0) where
   -- desk k is at one stage, where the views, taken together, have it that often
@@ -103,19 +131,23 @@ module _ {J W R : Type 0} (is_run : W → J → R → Type 0) where
       × AtStage is_run with k job (slice_index s.words 0) (slice_index s.words (k + 1)) (get_elem? s.homes k)
       (drawns s.views k) (helds s.views k) (takens s.views k) stage
 
--- the rule
---   few: so the counter can't wrap; wide, deep: there is a word and a slot for each desk; shares: the passes share 64 parts;
---   clerks: there is one clerk; low: a ticket past the last desk ends a pass, so there are at most 64 of them;
---   beyond: nobody has drawn a desk that isn't there
-pub record Kept {J W R : Type 0} (fits : W → J → Type 0) (is_run : W → J → R → Type 0) (plan : BoardSetup J W)
-    (s : State (Slot J R) (View J W)) : Type 0 where
-  pub all_fit : All (fits plan.with.value) plan.jobs.value.items
-  pub few : length plan.jobs.value.items ≤ 65536
-  pub wide : length s.words ≡ length plan.jobs.value.items + 1
-  pub deep : length s.homes ≡ length plan.jobs.value.items
-  pub shares : sum_by (λ v. v.hand.share) s.views ≡ 64
-  pub clerks : sum_by (λ v. v.book.clerk) s.views ≡ 1
-  pub low : slice_index s.words 0 + sum_by (λ v. live v.hand) s.views ≤ length plan.jobs.value.items + 64
-  pub beyond : (k : ℕ) → length plan.jobs.value.items ≤ k → drawns s.views k ≡ 0
-  pub each_desk : (k : ℕ) (job : J) → slice_get plan.jobs.value.items k ≡ Some job → DeskOk is_run plan.with.value s k job
-  pub each_view : (j : ℕ) (v : View J W) → get_elem? s.views j ≡ some v → ViewOk (about_of plan) s.words v
+  -- a board whose desks are drawn by tickets
+  --   HandOk: a pass has ended only where the tickets passed the last desk; Beside: a ticket past the last desk ends a pass, so there
+  --   are at most 64 of them
+  abbrev pub board_kind : BoardKind J W R Hand
+  board_kind = record {
+    share = λ h. h.share;
+    got = λ h. h.drawn;
+    held = λ h. h.held;
+    back = 1;
+    HandOk = λ m words h. IfSome h.ticket (λ t. (m ≤ t) × (m ≤ slice_index words 0));
+    DeskOk = DeskOk;
+    Beside = λ m s. slice_index s.words 0 + sum_by (λ v. live v.hand) s.views ≤ m + 64;
+  }
+
+-- what holds of one view, and the rule
+abbrev pub ViewOk : {J W R : Type 0} → (W → J → R → Type 0) → About J W → List ℕ → View J W → Type 0
+ViewOk is_run = SeatOk (board_kind is_run)
+
+abbrev pub Kept : {J W R : Type 0} → (W → J → Type 0) → (W → J → R → Type 0) → BoardSetup J W → State (Slot J R) (View J W) → Type 0
+Kept fits is_run = KeptBy (board_kind is_run) fits

@@ -1,14 +1,15 @@
 -- What seats know, whatever hands their passes have: how it is cut and put together, and what a clerk learns who takes a run.
-use Rattle.std.specs.Prelude.{◌≡◌, ℕ, ◌+◌, ◌∷◌, slice_get, Some, None}
-use Rattle.atomic_table.specs.Table.{Me, Step}
+use Rattle.std.specs.Prelude.{◌≡◌, ℕ, ◌+◌, ◌≤◌, ◌∷◌, length, map, replicate, slice_get, Some, None, All}
+use Rattle.atomic_table.specs.Table.{State, Me, Step, Splits, opening}
 use Rattle.atomic_table.specs.Seated.{TableId}
 use Rattle.atomic_table.specs.declared.shared.Seat.{Seat}
 use Rattle.desk_board.specs.Rule.{no_book}
 use Rattle.desk_board.specs.Told.{book_took}
 use Rattle.desk_board.specs.declared.view.About.{About}
+use Rattle.desk_board.specs.declared.view.BoardSetup.{BoardSetup}
 use Rattle.desk_board.specs.declared.view.SeatView.{SeatView}
 use Rattle.desk_board.specs.declared.view.Slot.{Slot}
-use Rattle.desk_board.specs.declared.view.Slot.TheVariants.{Done}
+use Rattle.desk_board.specs.declared.view.Slot.TheVariants.{Todo, Done}
 
 module _ {J W H : Type 0} where
   -- a seat that was joined into another, or the seat of a desk
@@ -55,3 +56,11 @@ module _ {J W R H : Type 0} where
   -- a run was collected
   abbrev pub took : (W → J → R → Type 0) → Step (Slot J R) → Known J W R H → ℕ → Known J W R H → Type 0
   took is_run st m found m' = (k : ℕ) (about : About J W) → st.word ≡ k + 1 → m.0.about ≡ Some about → TookFrom is_run about k m m'
+
+-- the rule allows a new board of whatever jobs that fit, and that its first seat becomes that of the first pass and that of the clerk
+abbrev pub Opens : {J W R H : Type 0} → (W → J → Type 0) → (BoardSetup J W → State (Slot J R) (SeatView J W H) → Type 0)
+    → (BoardSetup J W → SeatView J W H) → H → Type 0
+Opens {J} {W} {R} {H} fits holds first none =
+    (plan : BoardSetup J W) → length plan.jobs.value.items ≤ 65536 → All (fits plan.with.value) plan.jobs.value.items
+    → holds plan (opening (replicate (length plan.jobs.value.items + 1) 0) (map Todo plan.jobs.value.items) (first plan))
+    × ((id : ℕ) (v : SeatView J W H) → Splits (holds plan) id v (pass_part v) (clerk_part none v))

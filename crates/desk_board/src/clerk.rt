@@ -3,9 +3,9 @@ ghost use Rattle.std.specs.Prelude.{◌≡◌, ◌<◌, true, length, Contains};
 ghost use Rattle.desk_board.specs.Held.{about, hand, gathered, book, IsPassOf, IsClerkOf};
 ghost use Rattle.desk_board.specs.Told.{HasLooked, EachOnce, IsWhole, IsRunAt, book_took};
 
-use crate::plays::{Gather, Look, Take};
+use crate::plays::{Gather, Look};
+use crate::shared::take_run;
 use crate::types::{Board, Clerk, Pass};
-use crate::view::Slot;
 use gp_base::Job;
 
 impl<J: Job> Board<J> {
@@ -45,17 +45,7 @@ impl<J: Job> Board<J> {
         ensures book { book clerk.new ≡ book_took desk (book clerk.old) }
         ensures hand { gathered clerk.new ≡ gathered clerk.old }
     {
-        self.table
-            .shared
-            .store::<Take>(&mut clerk.seat, desk as usize + 1, 2);
-        let Slot::Done(run) = self
-            .table
-            .shared
-            .exchange(&mut clerk.seat, desk as usize, Slot::Empty)
-        else {
-            unreachable!()
-        };
-        run
+        take_run(&self.table.shared, &mut clerk.seat, desk, 2)
     }
 
     /// Takes in the pass that has the whole share, has ended and holds no desk. From then on each look of this clerk

@@ -9,11 +9,14 @@ mod made;
 mod passes;
 mod plays;
 mod rule;
+mod shared;
 mod types;
 mod view;
 
 pub use laws::rule_law;
 pub use made::{lay_out, take_back};
 pub use plays::{Cut, Gather, Leave, Merge, Office, Return, Take};
+pub use rule::{BoardSeat, BoardShared, BoardTable};
+pub use shared::{lay_table, put_back, take_run};
 pub use types::{Board, Clerk, Desk, Pass};
 pub use view::{About, BoardSetup, Book, PassHand, SeatView, Slot};

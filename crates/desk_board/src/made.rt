@@ -4,10 +4,10 @@ ghost use Rattle.desk_board.specs.Held.{about, hand, book, gathered, IsPassOf, I
 ghost use Rattle.desk_board.specs.Rule.{no_hand, first_hand, first_book};
 ghost use Rattle.desk_board.specs.declared.view.Slot.TheVariants.{Todo};
 
-use crate::plays::Office;
+use crate::rule::BoardRule;
+use crate::shared::lay_table;
 use crate::types::{Board, Clerk, Pass};
-use crate::view::{BoardSetup, Slot};
-use atomic_table::{Refused, Table};
+use crate::view::{Hand, Slot};
 use gp_base::{Job, Seq};
 use std::alloc::{AllocError, Global};
 use std::snapshot::Snapshot;
@@ -58,34 +58,10 @@ impl<J: Job> Board<J> {
         ensures clerk { IfOk result (λ made. IsClerkOf made.0 made.2 × (book made.2 ≡ first_book) × (gathered made.2 ≡ no_hand)) }
         ensures refused { IfErr result (λ refusal. refusal.1 ≡ jobs) }
     {
-        let mut jobs = jobs.into_vec();
-        let plan = BoardSetup {
-            jobs: Snapshot::of(&jobs),
-            with: Snapshot::of(with),
-        };
-        let count = jobs.len();
-        // the counter of tickets, and a word for each desk
-        let Ok(words) = Vec::from_elem(alloc, 0u64, count + 1) else {
-            return Err((AllocError, Seq::from_vec(jobs)));
-        };
-        let Ok(mut slots) = Vec::with_capacity(alloc, count) else {
-            return Err((AllocError, Seq::from_vec(jobs)));
-        };
-        lay_out(&mut jobs, &mut slots);
-        let (table, mut seat) = match Table::new(alloc, words.as_slice(), slots, &plan) {
-            Ok(made) => made,
-            Err(Refused { slots }) => {
-                take_back(slots, &mut jobs, &plan.jobs);
-                return Err((AllocError, Seq::from_vec(jobs)));
-            }
-        };
-        let office = table.shared.split_seat::<Office>(&mut seat);
+        let (table, seat, office) = lay_table::<J, Hand, BoardRule<J>>(alloc, with, jobs)?;
+        let count = table.slot_count() as u32;
         let pass = Pass { seat, ticket: None };
         let clerk = Clerk { seat: office };
-        let board = Board {
-            table,
-            count: count as u32,
-        };
-        Ok((board, pass, clerk))
+        Ok((Board { table, count }, pass, clerk))
     }
 }

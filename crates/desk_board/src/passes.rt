@@ -3,9 +3,11 @@ ghost use Rattle.std.specs.Prelude.{◌≡◌, ℕ, ◌<◌, ◌≤◌, [], leng
 ghost use Rattle.desk_board.specs.Held.{about, hand, IsPassOf, IsDeskOf};
 ghost use Rattle.desk_board.specs.Told.{HasEnded, EndsPast, NoneTwice, IsJobAt, IsRunAt, hand_drew, hand_finished, hand_both, hand_kept, hand_given};
 
-use crate::plays::{Cut, Draw, Finish, Leave, Merge, Return};
+use crate::plays::{Cut, Draw, Finish, Leave, Merge};
+use crate::rule::BoardRule;
+use crate::shared::put_back;
 use crate::types::{Board, Desk, Pass};
-use crate::view::Slot;
+use crate::view::{Hand, Slot};
 use gp_base::Job;
 use std::mem;
 
@@ -63,14 +65,14 @@ impl<J: Job> Board<J> {
         ensures hand { hand pass.new ≡ hand_finished desk.number (hand pass.old) }
     {
         let Desk { seat, number } = desk;
-        let seat = mem::replace(&mut pass.seat, seat);
-        self.table.shared.join_seat::<Return>(&mut pass.seat, seat);
-        self.table
-            .shared
-            .exchange(&mut pass.seat, number as usize, Slot::Done(run));
-        self.table
-            .shared
-            .store::<Finish>(&mut pass.seat, number as usize + 1, 1);
+        put_back::<Finish, J, Hand, BoardRule<J>>(
+            &self.table.shared,
+            &mut pass.seat,
+            seat,
+            number,
+            run,
+            1,
+        );
     }
 
     /// Gives 1 of the pass's share to a new pass, which has drawn no desk and has ended where this one has. Takes no

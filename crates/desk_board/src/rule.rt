@@ -1,10 +1,27 @@
 // The rule that every step keeps, and the table under it.
 
-use crate::view::{BoardSetup, Slot, View};
-use atomic_table::{Seat, Table, TableRule};
+use crate::view::{BoardSetup, Hand, SeatView, Slot, View};
+use atomic_table::{Seat, Shared, Table, TableRule};
 use gp_base::Job;
 use std::alloc::Global;
 use std::marker::PhantomData;
+
+/// The table of a board whose passes have hands H, under the rule P.
+pub type BoardTable<
+    J: Job,
+    H,
+    P: TableRule<Slot<J, J::Run>, SeatView<J, J::With, H>, BoardSetup<J, J::With>>,
+> = Table<Slot<J, J::Run>, SeatView<J, J::With, H>, BoardSetup<J, J::With>, P, Global>;
+
+/// What threads share of it.
+pub type BoardShared<
+    J: Job,
+    H,
+    P: TableRule<Slot<J, J::Run>, SeatView<J, J::With, H>, BoardSetup<J, J::With>>,
+> = Shared<Slot<J, J::Run>, SeatView<J, J::With, H>, BoardSetup<J, J::With>, P>;
+
+/// A seat at it.
+pub type BoardSeat<J: Job, H> = Seat<Slot<J, J::Run>, SeatView<J, J::With, H>>;
 
 pub struct BoardRule<J> {
     job: PhantomData<J>,
@@ -18,12 +35,6 @@ impl<J: Job> TableRule<Slot<J, J::Run>, View<J, J::With>, BoardSetup<J, J::With>
     ghost first = { first_view };
 }
 
-pub type JobTable<J: Job> = Table<
-    Slot<J, J::Run>,
-    View<J, J::With>,
-    BoardSetup<J, J::With>,
-    BoardRule<J>,
-    Global,
->;
+pub type JobTable<J: Job> = BoardTable<J, Hand, BoardRule<J>>;
 
-pub type JobSeat<J: Job> = Seat<Slot<J, J::Run>, View<J, J::With>>;
+pub type JobSeat<J: Job> = BoardSeat<J, Hand>;

@@ -1,8 +1,6 @@
 -- The rule gives each fact of a board.
-use Rattle.std.proofs.Common.{◌≡◌, ◌↔◌, ℕ, ◌<◌, ◌≤◌, length, sym, ap, ◌∙◌, arith, lt_of_not-le}
+use Rattle.std.proofs.Common.{◌≡◌, ◌↔◌, ℕ, ◌<◌, ◌≤◌, length, ap, ◌∙◌, arith}
 use Rattle.std.specs.Prelude.{Contains}
-use mathlib.Core.Logic.{dite}
-use native.Mathlib.Decide.{dec_le}
 use lib.ListN.{get_elem?}
 use Rattle.atomic_table.specs.Table.{State}
 use Rattle.gp_steal.specs.Rule.{View, claims, helds, takens, Stage, waiting, claimed, done, collected, Kept}
@@ -12,7 +10,8 @@ use Rattle.desk_board.specs.Rule.{times}
 use Rattle.gp_steal.specs.Facts.{word_of, IsView, DeskFacts, ViewFacts, BoardFacts}
 use Rattle.desk_board.proofs.Counts.{counted_once, counted_alike}
 use Rattle.desk_board.proofs.DeskLists.{times_from_Contains, Contains_from_times}
-use Rattle.desk_board.proofs.Tallies.{tally_part, tally_alone, all_from_times}
+use Rattle.desk_board.proofs.Tallies.{tally_part, all_from_times}
+use Rattle.desk_board.proofs.OneView.{got_within, alone_held, alone_taken}
 use Rattle.desk_board.proofs.Places.{got}
 use Rattle.gp_steal.proofs.Stages.{Stands, past_done, held_from, held_claimed, taken_at_most, taken_three, three_taken}
 use Rattle.gp_steal.proofs.Steps.{claimed_by_all, none_twice}
@@ -56,21 +55,10 @@ module _ {J W R : Type 0} (fits : W → J → Type 0) (is_run : W → J → R �
   abbrev m : ℕ
   m = length plan.jobs.value.items
 
-  -- a view that has the whole share holds all desks that are held
-  alone_held : (i : ℕ) (v : View J W) → IsView s i v → v.hand.share ≡ 64 → (k : ℕ) → helds s.views k ≡ times k v.hand.held
-  alone_held i v at all k =
-      tally_alone (λ x. x.hand.share) (λ x. times k x.hand.held) s.views i v at (r.shares ∙ sym all)
-      (λ j y there z. ap (times k) ((r.each_view j y there).idle z).1)
-
-  claimed_within : (i : ℕ) (v : View J W) → IsView s i v → (k : ℕ) → 1 ≤ times k v.hand.claimed → k < m
-  claimed_within i v at k h =
-      dite (dec_le m k) (λ l. absurd (let p = tally_part (λ (x : View J W). times k x.hand.claimed) s.views i v at in
-      let z = r.beyond k l in omega (arith, p, z, h))) (λ n. lt_of_not-le n)
-
   held_is : (i : ℕ) (v : View J W) → IsView s i v → (k : ℕ) → Contains v.hand.held k → Contains v.hand.claimed k × (word_of s k ≡ 1)
   held_is i v at k c = let h = times_from_Contains k v.hand.held c in let own = (r.each_view i v at).own k in
       let d : 1 ≤ times k v.hand.claimed = omega (arith, h, own) in
-      let g = got plan.jobs.value.items k (claimed_within i v at k d) in
+      let g = got plan.jobs.value.items k (got_within r i v at k d) in
       let was = r.each_desk k g.0 g.1 in (
         Contains_from_times k v.hand.claimed d,
         held_claimed is_run plan.with.value g.0 _ _ _ _ _ was.0 was.1
@@ -80,7 +68,7 @@ module _ {J W R : Type 0} (fits : W → J → Type 0) (is_run : W → J → R �
   is_held : (i : ℕ) (v : View J W) → IsView s i v → (k : ℕ) → Contains v.hand.claimed k → word_of s k ≡ 1 → Contains v.hand.held k
   is_held i v at k c e =
       let d = times_from_Contains k v.hand.claimed c in
-      let g = got plan.jobs.value.items k (claimed_within i v at k d) in
+      let g = got plan.jobs.value.items k (got_within r i v at k d) in
       let was = r.each_desk k g.0 g.1 in
       let more = held_from is_run plan.with.value g.0 _ _ _ _ _ was.0 was.1 e in
       let same =
@@ -91,23 +79,21 @@ module _ {J W R : Type 0} (fits : W → J → Type 0) (is_run : W → J → R �
   view_facts : (i : ℕ) (v : View J W) → IsView s i v → ViewFacts m s v
   view_facts i v at = let ok = r.each_view i v at in record {
     knows = ok.knows;
-    claimed = (none_twice fits is_run plan s r i v at, all_from_times (λ d. d < m) v.hand.claimed (λ d h. claimed_within i v at d h));
+    claimed = (none_twice fits is_run plan s r i v at, all_from_times (λ d. d < m) v.hand.claimed (λ d h. got_within r i v at d h));
     held = λ k. ((λ c. held_is i v at k c), λ x. is_held i v at k x.0 x.1);
-    swept = (ok.within, ok.swept);
-    tried = ok.tried;
+    swept = (ok.hand.within, ok.hand.below);
+    tried = ok.hand.last;
     seen = λ k c. ok.seen k (times_from_Contains k v.book.seen c);
     gathered = λ whole k l. (let g = got plan.jobs.value.items k l in let was = r.each_desk k g.0 g.1 in let all = whole.1 in
-        past_done is_run plan.with.value g.0 _ _ _ _ _ (ok.swept k (omega arith))
-        (alone_held i v at whole.0 k ∙ ap (times k) whole.2) was.0 was.1);
+        past_done is_run plan.with.value g.0 _ _ _ _ _ (ok.hand.below k (omega arith))
+        (alone_held r i v at whole.0 k ∙ ap (times k) whole.2) was.0 was.1);
   }
 
   taken_is : (i : ℕ) (v : View J W) → IsView s i v → v.book.clerk ≡ 1 → (k : ℕ) → k < m
       → (times k v.book.taken ≤ 1) × (Contains v.book.taken k ↔ (word_of s k ≡ 3))
   taken_is i v at clerk k l =
       let g = got plan.jobs.value.items k l in let was = r.each_desk k g.0 g.1 in
-      let alone : takens s.views k ≡ times k v.book.taken =
-      tally_alone (λ x. x.book.clerk) (λ x. times k x.book.taken) s.views i v at (r.clerks ∙ sym clerk)
-      (λ j y there z. ap (times k) ((r.each_view j y there).others z)) in
+      let alone = alone_taken r i v at clerk k in
       let most = taken_at_most is_run plan.with.value g.0 _ _ _ _ _ was.0 was.1 in (
         omega (arith, alone, most),
         (
@@ -121,7 +107,7 @@ module _ {J W R : Type 0} (fits : W → J → Type 0) (is_run : W → J → R �
   pub facts_hold : BoardFacts fits is_run plan s
   facts_hold = record {
     jobs = (r.all_fit, λ i v at. (r.each_view i v at).same);
-    still = r.still;
+    still = r.beside;
     shares = r.shares;
     claimed_once =
         λ k i j v u at there c d. counted_once (λ (x : View J W). times k x.hand.claimed) s.views

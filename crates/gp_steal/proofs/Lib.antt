@@ -1,6 +1,6 @@
 pub mod FactsHold
 pub mod Hands
 pub mod Looks
-pub mod Seats
 pub mod Stages
+pub mod StealHands
 pub mod Steps

@@ -2,8 +2,8 @@
 -- most one desk. Every other desk stands as before, since no list of the views has it more or less often (Alike); what
 -- a view says of the words stays true, since no desk's word falls. Of the desk that is touched the rule is shown anew.
 use Rattle.std.proofs.Common.{◌≡◌, ◌≢◌, ℕ, zero, suc, ◌+◌, ◌<◌, ◌≤◌, ◌==◌, nat_lt, Bool, true, false, cond, List, [], ◌∷◌, ◌++◌, length, get_or, set, sym, refl, ap, ◌∙◌, subst, arith, length-set, get_or-set_other, get_or-set_same, lt_of_not-le}
-use Rattle.std.specs.Prelude.{sum_by, slice_get, Option, Some, IfSome}
-use Rattle.std.proofs.lemmas.Option.{slice_get_within, get_or_from_slice_get}
+use Rattle.std.specs.Prelude.{sum_by, slice_get, Some}
+use Rattle.std.proofs.lemmas.Option.{slice_get_within}
 use Rattle.std.proofs.lemmas.Bool.{ltb-false, ne_eqb}
 use mathlib.Core.Option.{some, none}
 use mathlib.Core.Option as maybe
@@ -23,8 +23,9 @@ use Rattle.desk_board.specs.Rule.{times, about_of}
 use Rattle.desk_board.specs.Told.{without, NoneTwice, book_took, IsRunAt}
 use Rattle.gp_steal.specs.Told.{hand_tried, hand_claimed, hand_finished, book_looked, TriedFrom, tried, finished, looked}
 use Rattle.desk_board.specs.Views.{took, TookFrom}
-use Rattle.desk_board.proofs.Tallies.{tally_set, tally_same, tally_one_more, tally_part, tally_alone, times_append, times_more, times_else, without_same, without_else, without_le}
-use Rattle.gp_steal.proofs.Hands.{swept_within, swept_words, tried_stays}
+use Rattle.desk_board.proofs.Tallies.{tally_set, tally_same, tally_one_more, tally_part, times_append, times_more, times_else, without_same, without_else, without_le}
+use Rattle.gp_steal.proofs.Hands.{Up, swept_within, swept_words, hand_stays}
+use Rattle.desk_board.proofs.OneView.{job_fits, told_about, told_inside, alone_got, alone_held, alone_taken}
 use Rattle.desk_board.proofs.Places.{got, found_set, each_set}
 use Rattle.gp_steal.proofs.Stages.{stage_stays, is_waiting, is_claimed, is_done, past_done, word_low, claimed_at_most, claimed_past}
 
@@ -71,27 +72,22 @@ module _ {J W R : Type 0} (fits : W → J → Type 0) (is_run : W → J → R �
             (tally_same (λ x. times j x.book.taken) s.views id v w at a.2) was.0 was.1,
       ))
 
-  -- no desk's word falls
-  abbrev Up : List ℕ → List ℕ → Type 0
-  Up words words' = (k : ℕ) → get_or words (k + 1) 0 ≤ get_or words' (k + 1) 0
-
-  view_stays : (words words' : List ℕ) (v : V) → Up words words' → ViewOk (about_of plan) words v → ViewOk (about_of plan) words' v
+  view_stays : (words words' : List ℕ) (v : V) → Up words words' → ViewOk is_run (about_of plan) words v
+      → ViewOk is_run (about_of plan) words' v
   view_stays words words' v up ok = record {
     same = ok.same;
     knows = ok.knows;
     idle = ok.idle;
     own = ok.own;
-    within = ok.within;
-    swept = λ k l. (let a = ok.swept k l in let b = up k in omega arith);
-    tried = tried_stays v.hand.tried words words' up ok.tried;
+    hand = hand_stays (length jobs) words words' v.hand.swept v.hand.tried up ok.hand;
     others = ok.others;
     seen = λ k h. (let a = ok.seen k h in let b = up k in omega arith);
   }
 
-  views_after : (s : St) (r : Rule s) (words' : List ℕ) (id : ℕ) (w : V) → Up s.words words' → ViewOk (about_of plan) words' w
-      → (j : ℕ) (x : V) → get_elem? (set s.views id w) j ≡ some x → ViewOk (about_of plan) words' x
+  views_after : (s : St) (r : Rule s) (words' : List ℕ) (id : ℕ) (w : V) → Up s.words words' → ViewOk is_run (about_of plan) words' w
+      → (j : ℕ) (x : V) → get_elem? (set s.views id w) j ≡ some x → ViewOk is_run (about_of plan) words' x
   views_after s r words' id w up mine =
-      each_set (ViewOk (about_of plan) words') s.views id w mine (λ j x e. view_stays s.words words' x up (r.each_view j x e))
+      each_set (ViewOk is_run (about_of plan) words') s.views id w mine (λ j x e. view_stays s.words words' x up (r.each_view j x e))
 
   -- all views together have no desk twice as claimed
   pub claimed_by_all : (s : St) (r : Rule s) (k : ℕ) → claims s.views k ≤ 1
@@ -102,14 +98,6 @@ module _ {J W R : Type 0} (fits : W → J → Type 0) (is_run : W → J → R �
   -- no view has a desk twice as claimed
   pub none_twice : (s : St) (r : Rule s) (id : ℕ) (v : V) → get_elem? s.views id ≡ some v → NoneTwice v.hand.claimed
   none_twice s r id v at k = omega (arith, claimed_by_all s r k, tally_part (λ (x : V). times k x.hand.claimed) s.views id v at)
-
-  told_about : (s : St) (r : Rule s) (id : ℕ) (v : V) (about : About J W) → get_elem? s.views id ≡ some v → v.about ≡ Some about
-      → about ≡ about_of plan
-  told_about s r id v about at is = subst (λ (o : Option (About J W)). IfSome o (λ a. a ≡ about_of plan)) is (r.each_view id v at).same
-
-  job_fits : (s : St) (r : Rule s) (k : ℕ) (job : J) → slice_get jobs k ≡ Some job → fits plan.with.value job
-  job_fits s r k job has =
-      subst (fits plan.with.value) (get_or_from_slice_get jobs k job job has) (r.all_fit k job (slice_get_within jobs k job has))
 
   -- a word of a desk that is set to no less
   up_at : (words : List ℕ) (k n : ℕ) → k + 1 < length words → get_or words (k + 1) 0 ≤ n → Up words (set words (k + 1) n)
@@ -139,7 +127,7 @@ module _ {J W R : Type 0} (fits : W → J → Type 0) (is_run : W → J → R �
           few = r.few;
           wide = length-set s.words (k + 1) 1 ∙ wide;
           deep = length-set s.homes k none ∙ deep;
-          still = get_or-set_other s.words (k + 1) 0 1 0 (λ e. omega arith) ∙ r.still;
+          beside = get_or-set_other s.words (k + 1) 0 1 0 (λ e. omega arith) ∙ r.beside;
           shares = tally_same (λ x. x.hand.share) s.views id v w at refl ∙ r.shares;
           clerks = tally_same (λ x. x.book.clerk) s.views id v w at refl ∙ r.clerks;
           beyond =
@@ -164,9 +152,11 @@ module _ {J W R : Type 0} (fits : W → J → Type 0) (is_run : W → J → R �
             knows = old.knows;
             idle = λ z. absurd (omega arith);
             own = λ j. (let z = old.own j in omega (arith, z, times_append j v.hand.held (k ∷ []), times_append j v.hand.claimed (k ∷ [])));
-            within = swept_within k v.hand.swept (length jobs) inside old.within;
-            swept = swept_words words' k v.hand.swept (λ d l. let a = old.swept d l in let b = up d in omega arith) (omega arith);
-            tried = λ l. absurd (omega arith);
+            hand = record {
+              within = swept_within k v.hand.swept (length jobs) inside old.hand.within;
+              below = swept_words words' k v.hand.swept (λ d l. let a = old.hand.below d l in let b = up d in omega arith) (omega arith);
+              last = λ l. absurd (omega arith);
+            };
             others = old.others;
             seen = λ j h. (let a = old.seen j h in let b = up j in omega arith);
           };
@@ -176,7 +166,7 @@ module _ {J W R : Type 0} (fits : W → J → Type 0) (is_run : W → J → R �
   -- no desk is touched: the words are read, and what a view has in hand or on its books changes
   reads : (s : St) (r : Rule s) (i id : ℕ) (v w : V) → get_elem? s.views id ≡ some v → w.hand.share ≡ v.hand.share
       → w.hand.claimed ≡ v.hand.claimed → w.hand.held ≡ v.hand.held
-      → w.book.clerk ≡ v.book.clerk → w.book.taken ≡ v.book.taken → ViewOk (about_of plan) s.words w
+      → w.book.clerk ≡ v.book.clerk → w.book.taken ≡ v.book.taken → ViewOk is_run (about_of plan) s.words w
       → Rule record { words = set s.words i (get_or s.words i 0); homes = s.homes; views = set s.views id w }
   reads s r i id v w at share own held clerk taken ok =
       subst (λ (ws : List ℕ). Rule record { words = ws; homes = s.homes; views = set s.views id w }) (sym (set-get_or s.words i 0)) record {
@@ -184,7 +174,7 @@ module _ {J W R : Type 0} (fits : W → J → Type 0) (is_run : W → J → R �
         few = r.few;
         wide = r.wide;
         deep = r.deep;
-        still = r.still;
+        beside = r.beside;
         shares = tally_same (λ x. x.hand.share) s.views id v w at share ∙ r.shares;
         clerks = tally_same (λ x. x.book.clerk) s.views id v w at clerk ∙ r.clerks;
         beyond = λ j l. tally_same (λ x. times j x.hand.claimed) s.views id v w at (ap (times j) own) ∙ r.beyond j l;
@@ -210,9 +200,11 @@ module _ {J W R : Type 0} (fits : W → J → Type 0) (is_run : W → J → R �
         knows = old.knows;
         idle = old.idle;
         own = old.own;
-        within = swept_within k v.hand.swept (length jobs) inside old.within;
-        swept = swept_words s.words k v.hand.swept old.swept (omega arith);
-        tried = λ l. omega arith;
+        hand = record {
+          within = swept_within k v.hand.swept (length jobs) inside old.hand.within;
+          below = swept_words s.words k v.hand.swept old.hand.below (omega arith);
+          last = λ l. omega arith;
+        };
         others = old.others;
         seen = old.seen;
       }
@@ -229,7 +221,7 @@ module _ {J W R : Type 0} (fits : W → J → Type 0) (is_run : W → J → R �
       → Allows Rule slots id me (k + 1) (λ n. either (n == 0) 1 n) (tried fits (step slots (k + 1) 0 1 none) me)
   claims_or_fails slots id me k about is inside' part s r deep at in_range =
       let v = me.0 in let n : ℕ = get_or s.words (k + 1) 0 in
-      let inside : k < length jobs = subst (λ (a : About J W). k < length a.jobs) (told_about s r id v about at is) inside' in
+      let inside : k < length jobs = told_inside r id v at about is k inside' in
       dite (ℕ_discrete n 0)
       (λ free. let w : V = record v { hand = hand_claimed k v.hand } in let g = got jobs k inside in
       let did = claims_desk s r id v me.1 k g.0 at part g.1 free in (
@@ -239,11 +231,11 @@ module _ {J W R : Type 0} (fits : W → J → Type 0) (is_run : W → J → R �
         subst (λ (x : ℕ). Rule (stepped s (k + 1) x id me.1 w (takes k (Todo g.0)))) (sym (either_zero n free)) did.1,
         λ j about' e is'. let same : k ≡ j = omega arith in
             subst (λ (z : ℕ × About J W). TriedFrom fits z.1 z.0 me n (w, (k, Todo g.0) ∷ me.1))
-            (λ i. (same i, sym (told_about s r id v about' at is') i)) (
+            (λ i. (same i, sym (told_about r id v at about' is') i)) (
               (λ _. (
                 g.0,
                 g.1,
-                job_fits s r k g.0 g.1,
+                job_fits r k g.0 g.1,
                 refl,
                 none_twice (stepped s (k + 1) 1 id me.1 w (takes k (Todo g.0))) did.1 id w (found_set s.views id v w at),
               )),
@@ -257,21 +249,21 @@ module _ {J W R : Type 0} (fits : W → J → Type 0) (is_run : W → J → R �
         subst (λ (x : ℕ). Rule (stepped s (k + 1) x id me.1 w keeps)) (sym (either_more n (omega arith)))
             (tries s r id v k n at inside refl (omega arith)),
         λ j about' e is'. let same : k ≡ j = omega arith in
-            subst (λ (z : ℕ × About J W). TriedFrom fits z.1 z.0 me n (w, me.1)) (λ i. (same i, sym (told_about s r id v about' at is') i))
+            subst (λ (z : ℕ × About J W). TriedFrom fits z.1 z.0 me n (w, me.1)) (λ i. (same i, sym (told_about r id v at about' is') i))
             ((λ z. absurd (busy z)), λ _. refl),
       ))
 
-  finishes_desk : (slots id : ℕ) (v : V) (carried : List (ℕ × Slot J R)) (k : ℕ) (run : R) (about : About J W) (job : J)
-      → v.about ≡ Some about → slice_get about.jobs k ≡ Some job → is_run about.with job run → 1 ≤ times k v.hand.held
+  pub finishes : (slots id : ℕ) (v : V) (carried : List (ℕ × Slot J R)) (k : ℕ) (run : R) (about : About J W) → v.about ≡ Some about
+      → IsRunAt is_run about k run → 1 ≤ times k v.hand.held
       → Allows Rule slots id (v, (k, Done run) ∷ carried) (k + 1) (λ _. 2)
       (λ _. finished (step slots (k + 1) 2 0 none) (v, (k, Done run) ∷ carried) 2)
-  finishes_desk slots id v carried k run about job is has ran mine s r deep' at in_range =
+  finishes slots id v carried k run about is ran mine s r deep' at in_range =
       let w : V = record v { hand = hand_finished k v.hand } in
       let words' : List ℕ = set s.words (k + 1) 2 in
       let homes' : Homes = set s.homes k (some (Done run)) in
       let wide = r.wide in let deep = r.deep in let old = r.each_view id v at in
-      let known : (slice_get jobs k ≡ Some job) × is_run plan.with.value job run =
-      subst (λ (a : About J W). (slice_get a.jobs k ≡ Some job) × is_run a.with job run) (told_about s r id v about at is) (has, ran) in
+      let job = ran.0 in let known : (slice_get jobs k ≡ Some job) × is_run plan.with.value job run =
+      subst (λ (a : About J W). (slice_get a.jobs k ≡ Some job) × is_run a.with job run) (told_about r id v at about is) (ran.1, ran.2) in
       let inside : k < length jobs = slice_get_within jobs k job known.0 in
       let helds : times k v.hand.held ≤ sum_by (λ x. times k x.hand.held) s.views = tally_part (λ x. times k x.hand.held) s.views id v at in
       let was = r.each_desk k job known.0 in let st = is_claimed is_run plan.with.value job _ _ _ _ _ (omega arith) was.0 was.1 in
@@ -290,7 +282,7 @@ module _ {J W R : Type 0} (fits : W → J → Type 0) (is_run : W → J → R �
           few = r.few;
           wide = length-set s.words (k + 1) 2 ∙ wide;
           deep = length-set s.homes k (some (Done run)) ∙ deep;
-          still = get_or-set_other s.words (k + 1) 0 2 0 (λ e. omega arith) ∙ r.still;
+          beside = get_or-set_other s.words (k + 1) 0 2 0 (λ e. omega arith) ∙ r.beside;
           shares = tally_same (λ x. x.hand.share) s.views id v w at refl ∙ r.shares;
           clerks = tally_same (λ x. x.book.clerk) s.views id v w at refl ∙ r.clerks;
           beyond = λ j l. tally_same (λ x. times j x.hand.claimed) s.views id v w at refl ∙ r.beyond j l;
@@ -311,9 +303,7 @@ module _ {J W R : Type 0} (fits : W → J → Type 0) (is_run : W → J → R �
             knows = old.knows;
             idle = λ z. (let i = old.idle z in (i.0, ap (without k) i.1));
             own = λ j. (let z = old.own j in omega (arith, z, without_le j k v.hand.held));
-            within = old.within;
-            swept = λ d l. (let a = old.swept d l in let b = up d in omega arith);
-            tried = tried_stays v.hand.tried s.words words' up old.tried;
+            hand = hand_stays (length jobs) s.words words' v.hand.swept v.hand.tried up old.hand;
             others = old.others;
             seen = λ j h. (let a = old.seen j h in let b = up j in omega arith);
           };
@@ -321,13 +311,6 @@ module _ {J W R : Type 0} (fits : W → J → Type 0) (is_run : W → J → R �
         λ j e. let same : k ≡ j = omega arith in
             subst (λ (z : ℕ). (w, carried) ≡ (let m : Known = (record v { hand = hand_finished z v.hand }, carried) in m)) same refl,
       )
-
-  pub finishes : (slots id : ℕ) (me : Known) (v : V) (carried : List (ℕ × Slot J R)) (k : ℕ) (run : R) (about : About J W)
-      → me ≡ (v, (k, Done run) ∷ carried) → v.about ≡ Some about → IsRunAt is_run about k run → 1 ≤ times k v.hand.held
-      → Allows Rule slots id me (k + 1) (λ _. 2) (λ _. finished (step slots (k + 1) 2 0 none) me 2)
-  finishes slots id me v carried k run about is of ran held =
-      subst (λ (m : Known). Allows Rule slots id m (k + 1) (λ _. 2) (λ _. finished (step slots (k + 1) 2 0 none) m 2)) (sym is)
-      (finishes_desk slots id v carried k run about ran.0 of ran.1 ran.2 held)
 
   -- a desk that was seen as done is done
   saw : (words : List ℕ) (k : ℕ) (seen : List ℕ) → ((j : ℕ) → 0 < times j seen → 2 ≤ get_or words (j + 1) 0)
@@ -345,7 +328,7 @@ module _ {J W R : Type 0} (fits : W → J → Type 0) (is_run : W → J → R �
       let n : ℕ = get_or s.words (k + 1) 0 in
       let old = r.each_view id v at in
       let w : V = record v { book = book_looked k n v.book } in
-      let inside : k < length jobs = subst (λ (a : About J W). k < length a.jobs) (told_about s r id v about at is) inside' in
+      let inside : k < length jobs = told_inside r id v at about is k inside' in
       let g = got jobs k inside in let was = r.each_desk k g.0 g.1 in (
         w,
         keeps,
@@ -355,29 +338,22 @@ module _ {J W R : Type 0} (fits : W → J → Type 0) (is_run : W → J → R �
           knows = old.knows;
           idle = old.idle;
           own = old.own;
-          within = old.within;
-          swept = old.swept;
-          tried = old.tried;
+          hand = old.hand;
           others = old.others;
           seen = saw s.words k v.book.seen old.seen (nat_lt n 2) refl;
         },
-        λ j about' e is'. let same : k ≡ j = omega arith in let known = told_about s r id v about' at is' in (
+        λ j about' e is'. let same : k ≡ j = omega arith in let known = told_about r id v at about' is' in (
           subst (λ (z : ℕ). (let m : Known = (w, me.1) in m) ≡ (record v { book = book_looked z n v.book }, me.1)) same refl,
           word_low is_run plan.with.value g.0 _ _ _ _ _ was.0 was.1,
           λ whole.
-              let all : v.hand.swept ≡ length jobs = whole.1 ∙ ap (λ (a : About J W). length a.jobs) known in
-              let alone : sum_by (λ (x : V). times k x.hand.held) s.views ≡ times k v.hand.held =
-              tally_alone (λ x. x.hand.share) (λ x. times k x.hand.held) s.views id v at (r.shares ∙ sym whole.0)
-              (λ i y a z. ap (times k) ((r.each_view i y a).idle z).1) in
-              let none : times k v.hand.held ≡ 0 = ap (times k) whole.2 in (
-                past_done is_run plan.with.value g.0 _ _ _ _ _ (old.swept k (omega arith)) (alone ∙ none) was.0 was.1,
+              let all : v.hand.swept ≡ length jobs = whole.1 ∙ ap (λ (a : About J W). length a.jobs) known in (
+                past_done is_run plan.with.value g.0 _ _ _ _ _ (old.hand.below k (omega arith))
+                    (alone_held r id v at whole.0 k ∙ ap (times k) whole.2) was.0 was.1,
                 (
-                  λ d l. let below : d < length jobs = subst (λ (a : About J W). d < length a.jobs) known l in
-                      let one : claims s.views d ≡ times d v.hand.claimed =
-                      tally_alone (λ x. x.hand.share) (λ x. times d x.hand.claimed) s.views id v at (r.shares ∙ sym whole.0)
-                      (λ i y a z. ap (times d) ((r.each_view i y a).idle z).0) in
+                  λ d l. let below = told_inside r id v at about' is' d l in
                       let y = got jobs d below in let then = r.each_desk d y.0 y.1 in
-                      sym one ∙ claimed_past is_run plan.with.value y.0 _ _ _ _ _ (old.swept d (omega arith)) then.0 then.1,
+                      sym (alone_got r id v at whole.0 d)
+                      ∙ claimed_past is_run plan.with.value y.0 _ _ _ _ _ (old.hand.below d (omega arith)) then.0 then.1,
                   λ d l. let past : length jobs ≤ d = subst (λ (a : About J W). length a.jobs ≤ d) known l in
                       let part = tally_part (λ (x : V). times d x.hand.claimed) s.views id v at in
                       let none = r.beyond d past in
@@ -392,12 +368,10 @@ module _ {J W R : Type 0} (fits : W → J → Type 0) (is_run : W → J → R �
       → Allows Rule slots id me (k + 1) (λ _. 3) (λ _. took is_run (step slots (k + 1) 3 0 none) me 3)
   collects slots id me k about is inside' clerk was_seen fresh s r deep' at in_range =
       let v = me.0 in let w : V = record v { book = book_took k v.book } in let old = r.each_view id v at in
-      let inside : k < length jobs = subst (λ (a : About J W). k < length a.jobs) (told_about s r id v about at is) inside' in
+      let inside : k < length jobs = told_inside r id v at about is k inside' in
       let words' : List ℕ = set s.words (k + 1) 3 in let homes' : Homes = set s.homes k none in let wide = r.wide in let deep = r.deep in
       let g = got jobs k inside in let was = r.each_desk k g.0 g.1 in
-      let alone : sum_by (λ (x : V). times k x.book.taken) s.views ≡ times k v.book.taken =
-      tally_alone (λ x. x.book.clerk) (λ x. times k x.book.taken) s.views id v at (r.clerks ∙ sym clerk)
-      (λ i y a z. ap (times k) ((r.each_view i y a).others z)) in
+      let alone = alone_taken r id v at clerk k in
       let st = is_done is_run plan.with.value g.0 _ _ _ _ _ (old.seen k was_seen) (alone ∙ fresh) was.0 was.1 in
       let run = st.1.0 in
       let before = st.0 in
@@ -413,7 +387,7 @@ module _ {J W R : Type 0} (fits : W → J → Type 0) (is_run : W → J → R �
           few = r.few;
           wide = length-set s.words (k + 1) 3 ∙ wide;
           deep = length-set s.homes k none ∙ deep;
-          still = get_or-set_other s.words (k + 1) 0 3 0 (λ e. omega arith) ∙ r.still;
+          beside = get_or-set_other s.words (k + 1) 0 3 0 (λ e. omega arith) ∙ r.beside;
           shares = tally_same (λ x. x.hand.share) s.views id v w at refl ∙ r.shares;
           clerks = tally_same (λ x. x.book.clerk) s.views id v w at refl ∙ r.clerks;
           beyond = λ j l. tally_same (λ x. times j x.hand.claimed) s.views id v w at refl ∙ r.beyond j l;
@@ -434,14 +408,12 @@ module _ {J W R : Type 0} (fits : W → J → Type 0) (is_run : W → J → R �
             knows = old.knows;
             idle = old.idle;
             own = old.own;
-            within = old.within;
-            swept = λ d l. (let a = old.swept d l in let b = up d in omega arith);
-            tried = tried_stays v.hand.tried s.words words' up old.tried;
+            hand = hand_stays (length jobs) s.words words' v.hand.swept v.hand.tried up old.hand;
             others = λ z. absurd (omega arith);
             seen = λ j h. (let a = old.seen j h in let b = up j in omega arith);
           };
         },
         λ j about' e is'. let same : k ≡ j = omega arith in
             subst (λ (z : ℕ × About J W). TookFrom is_run z.1 z.0 me (w, (k, Done run) ∷ me.1))
-            (λ i. (same i, sym (told_about s r id v about' at is') i)) (g.0, run, g.1, st.1.2, refl),
+            (λ i. (same i, sym (told_about r id v at about' is') i)) (g.0, run, g.1, st.1.2, refl),
       )

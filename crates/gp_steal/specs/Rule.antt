@@ -1,12 +1,12 @@
 -- The rule of a board of m jobs whose desks are claimed one by one: what holds of its words, its slots and all views between any
 -- two steps. Word 0 stays 0. Desk k has word k + 1 (0 to do, 1 claimed, 2 done, 3 collected) and slot k. A view is what a seat
 -- knows: that of a pass, of the clerk, or of nobody any more. What passes have is counted by sums over all views.
-use Rattle.std.specs.Prelude.{◌≡◌, ℕ, ◌+◌, ◌<◌, ◌≤◌, List, [], length, slice_index, slice_get, sum_by, Some, None, IfSome, All}
+use Rattle.std.specs.Prelude.{◌≡◌, ℕ, ◌+◌, ◌<◌, ◌≤◌, List, [], slice_index, sum_by, Option, Some, None, IfSome}
 use mathlib.Core.Option.{some, none}
 use mathlib.Core.Option as maybe
 use lib.ListN.{get_elem?}
 use Rattle.atomic_table.specs.Table.{State}
-use Rattle.desk_board.specs.Rule.{times, no_book, first_book, about_of}
+use Rattle.desk_board.specs.Rule.{times, no_book, first_book, about_of, BoardKind, SeatOk, KeptBy}
 use Rattle.desk_board.specs.declared.view.About.{About}
 use Rattle.gp_steal.specs.declared.view.Hand.{Hand}
 use Rattle.desk_board.specs.declared.view.SeatView.{SeatView}
@@ -62,21 +62,13 @@ module _ {J W R : Type 0} (is_run : W → J → R → Type 0) (with : W) where
         (word ≡ 2) × ((run : R) × (home ≡ some (some (Done run))) × is_run with job run) × (claims ≡ 1) × (helds ≡ 0) × (takens ≡ 0)
     AtStage collected = (word ≡ 3) × (home ≡ some none) × (claims ≡ 1) × (helds ≡ 0) × (takens ≡ 1)
 
--- what holds of one view
---   same: it has the jobs of the board; knows: a pass with a share has them, and so has the clerk; idle: without a share it has no
---   desk; own: it holds only desks that it claimed;
---   within, swept: its swept number is at most m, and each desk below it was claimed by somebody; tried: so was the desk of its last
---   try, where that found a number other than 0; others: only the clerk takes; seen: what was seen done is done or collected
-pub record ViewOk {J W : Type 0} (about : About J W) (words : List ℕ) (v : View J W) : Type 0 where
-  pub same : IfSome v.about (λ a. a ≡ about)
-  pub knows : v.about ≡ None → (v.hand.share ≡ 0) × (v.book.clerk ≡ 0)
-  pub idle : v.hand.share ≡ 0 → (v.hand.claimed ≡ []) × (v.hand.held ≡ [])
-  pub own : (k : ℕ) → times k v.hand.held ≤ times k v.hand.claimed
-  pub within : v.hand.swept ≤ length about.jobs
-  pub swept : (k : ℕ) → k < v.hand.swept → 1 ≤ slice_index words (k + 1)
-  pub tried : IfSome v.hand.tried (λ t. 1 ≤ t.1 → 1 ≤ slice_index words (t.0 + 1))
-  pub others : v.book.clerk ≡ 0 → v.book.taken ≡ []
-  pub seen : (k : ℕ) → 0 < times k v.book.seen → 2 ≤ slice_index words (k + 1)
+-- what holds of the swept number and the last try of a hand, by the number of jobs and the words
+--   within, below: the swept number is at most m, and each desk below it was claimed by somebody; last: so was the desk of the last
+--   try, where that found a number other than 0
+pub record TriesOk (m : ℕ) (words : List ℕ) (swept : ℕ) (tried : Option (ℕ × ℕ)) : Type 0 where
+  pub within : swept ≤ m
+  pub below : (k : ℕ) → k < swept → 1 ≤ slice_index words (k + 1)
+  pub last : IfSome tried (λ t. 1 ≤ t.1 → 1 ≤ slice_index words (t.0 + 1))
 
 module _ {J W R : Type 0} (is_run : W → J → R → Type 0) where
   -- desk k is at one stage, where the views, taken together, have it that often
@@ -85,18 +77,21 @@ module _ {J W R : Type 0} (is_run : W → J → R → Type 0) where
       × AtStage is_run with job (slice_index s.words (k + 1)) (get_elem? s.homes k) (claims s.views k) (helds s.views k)
       (takens s.views k) stage
 
--- the rule
---   wide, deep: there is a word and a slot for each desk; still: word 0 is 0; shares: the passes share 64 parts; clerks: there is one
---   clerk; beyond: nobody has claimed a desk that isn't there
-pub record Kept {J W R : Type 0} (fits : W → J → Type 0) (is_run : W → J → R → Type 0) (plan : BoardSetup J W)
-    (s : State (Slot J R) (View J W)) : Type 0 where
-  pub all_fit : All (fits plan.with.value) plan.jobs.value.items
-  pub few : length plan.jobs.value.items ≤ 65536
-  pub wide : length s.words ≡ length plan.jobs.value.items + 1
-  pub deep : length s.homes ≡ length plan.jobs.value.items
-  pub still : slice_index s.words 0 ≡ 0
-  pub shares : sum_by (λ v. v.hand.share) s.views ≡ 64
-  pub clerks : sum_by (λ v. v.book.clerk) s.views ≡ 1
-  pub beyond : (k : ℕ) → length plan.jobs.value.items ≤ k → claims s.views k ≡ 0
-  pub each_desk : (k : ℕ) (job : J) → slice_get plan.jobs.value.items k ≡ Some job → DeskOk is_run plan.with.value s k job
-  pub each_view : (j : ℕ) (v : View J W) → get_elem? s.views j ≡ some v → ViewOk (about_of plan) s.words v
+  -- a board whose desks are claimed, where word 0 stays 0
+  abbrev pub steal_kind : BoardKind J W R Hand
+  steal_kind = record {
+    share = λ h. h.share;
+    got = λ h. h.claimed;
+    held = λ h. h.held;
+    back = 2;
+    HandOk = λ m words h. TriesOk m words h.swept h.tried;
+    DeskOk = DeskOk;
+    Beside = λ m s. slice_index s.words 0 ≡ 0;
+  }
+
+-- what holds of one view, and the rule
+abbrev pub ViewOk : {J W R : Type 0} → (W → J → R → Type 0) → About J W → List ℕ → View J W → Type 0
+ViewOk is_run = SeatOk (steal_kind is_run)
+
+abbrev pub Kept : {J W R : Type 0} → (W → J → Type 0) → (W → J → R → Type 0) → BoardSetup J W → State (Slot J R) (View J W) → Type 0
+Kept fits is_run = KeptBy (steal_kind is_run) fits

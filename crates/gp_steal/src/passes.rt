@@ -5,8 +5,10 @@ ghost use Rattle.desk_board.specs.Told.{NoneTwice, IsJobAt, IsRunAt};
 ghost use Rattle.gp_steal.specs.Told.{HasFailed, hand_claimed, hand_finished, hand_both, hand_kept, hand_given, swept_after};
 
 use crate::plays::{Claim, Finish};
+use crate::rule::BoardRule;
 use crate::types::{StealBoard, StealDesk, StealPass};
-use desk_board::{Cut, Leave, Merge, Return, Slot};
+use crate::view::Hand;
+use desk_board::{Cut, Leave, Merge, Slot, put_back};
 use gp_base::Job;
 use std::mem;
 
@@ -77,16 +79,15 @@ impl<J: Job> StealBoard<J> {
         ensures of { IsPassOf self.now pass.new }
         ensures hand { hand pass.new ≡ hand_finished desk.number (hand pass.old) }
     {
-        // the pass comes to the desk's seat, which has the slot
         let StealDesk { seat, number } = desk;
-        let seat = mem::replace(&mut pass.seat, seat);
-        self.table.shared.join_seat::<Return>(&mut pass.seat, seat);
-        self.table
-            .shared
-            .exchange(&mut pass.seat, number as usize, Slot::Done(run));
-        self.table
-            .shared
-            .store::<Finish>(&mut pass.seat, number as usize + 1, 2);
+        put_back::<Finish, J, Hand, BoardRule<J>>(
+            &self.table.shared,
+            &mut pass.seat,
+            seat,
+            number,
+            run,
+            2,
+        );
     }
 
     /// Gives 1 of the pass's share to a new pass, which has claimed, tried and swept no desk. Takes no memory.

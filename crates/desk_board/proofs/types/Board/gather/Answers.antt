@@ -1,5 +1,6 @@
 use Rattle.std.proofs.Common.{arith}
 use Rattle.desk_board.proofs.Seats.{gathers}
+use Rattle.desk_board.proofs.BoardHands.{hand_laws}
 use Rattle.desk_board.proofs.types.Board.gather.Goals as goal
 
 pub join_seat-requires : goal.join_seat-requires
@@ -8,5 +9,5 @@ join_seat-requires g c = (
   c.requires.of.1.0.0,
   c.args.pass.bare,
   omega arith,
-  gathers g.J.Job.fits g.J.Job.is_run _ _ _ _ _ c.args.clerk.now.office c.args.pass.plain c.requires.whole.0,
+  gathers (hand_laws g.J.Job.is_run) g.J.Job.fits _ _ _ _ _ c.args.clerk.now.office c.args.pass.plain c.requires.whole.0,
 )

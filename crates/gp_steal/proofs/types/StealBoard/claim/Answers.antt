@@ -6,7 +6,8 @@ use Rattle.desk_board.specs.Told.{NoneTwice}
 use Rattle.gp_steal.specs.Told.{swept_after}
 use Rattle.gp_steal.proofs.Hands.{swept_within}
 use Rattle.gp_steal.proofs.Steps.{claims_or_fails}
-use Rattle.gp_steal.proofs.Seats.{leaves}
+use Rattle.desk_board.proofs.Seats.{leaves}
+use Rattle.gp_steal.proofs.StealHands.{hand_laws}
 use Rattle.desk_board.proofs.DeskLists.{front, front_is}
 use Rattle.gp_steal.proofs.types.StealBoard.claim.Goals as goal
 
@@ -49,8 +50,11 @@ unreachable-requires g c =
     c.in_default.not-Todo did.0 (front_is _ _ _ _ _ _ (ap (λ m. m.1) did.3) c.exchange.ensures.2)
 
 pub split_seat-seat-requires : goal.split_seat-seat-requires
-split_seat-seat-requires g c =
-    (c.exchange.ensures.0 ∙ (c.compare_exchange-found.ensures.0 ∙ c.requires.of.0.0), omega arith, leaves g.J.Job.fits g.J.Job.is_run _ _ _)
+split_seat-seat-requires g c = (
+  c.exchange.ensures.0 ∙ (c.compare_exchange-found.ensures.0 ∙ c.requires.of.0.0),
+  omega arith,
+  leaves (hand_laws g.J.Job.is_run) g.J.Job.fits _ _ _,
+)
 
 pub invariant_of-pass-2 : goal.invariant_of-pass-2
 invariant_of-pass-2 g c = let did = (c.compare_exchange-found.ensures.2 c.args.desk _ refl c.requires.of.0.1).0 (search rules) in
