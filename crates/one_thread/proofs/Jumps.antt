@@ -1,7 +1,7 @@
 -- Turns in which threads that rest pass, one after another, come to one step over all of them.
-use Rattle.std.proofs.Common.{◌≡◌, ◌⊎◌, inl, inr, ℕ, zero, suc, ◌+◌, ◌-◌, ◌<◌, ◌≤◌, Bool, true, false, not, ◌&&◌, ◌||◌, cond, List, [], ◌∷◌, ◌++◌, map, length, nat_lt, nat_le, unwrap_or, option_map, option_and_then, Option, Some, None, is_none, count_by, max, refl, sym, ap, ◌∙◌, subst, arith}
+use Rattle.std.proofs.Common.{◌≡◌, ◌⊎◌, inl, inr, ℕ, zero, suc, ◌+◌, ◌-◌, ◌<◌, ◌≤◌, Bool, true, false, not, ◌&&◌, ◌||◌, cond, List, [], ◌∷◌, ◌++◌, map, length, nat_lt, nat_le, unwrap_or, option_map, option_and_then, Option, Some, None, is_none, count_by, refl, sym, ap, ◌∙◌, subst, arith}
 use Rattle.std.specs.Prelude.{slice_get, pos, negsuc}
-use Rattle.std.proofs.lemmas.Bool.{false≢true, cases_lt, cases_eq}
+use Rattle.std.proofs.lemmas.Bool.{false≢true}
 use Rattle.std.proofs.lemmas.List.{append-nil, length-map}
 use Rattle.gp_base.specs.declared.limits.TheConstants.{MOST_THREADS}
 use Rattle.gp_base.specs.declared.ending.End.TheVariants.{Finished, Spent}
@@ -9,15 +9,14 @@ use Rattle.gp_base.specs.declared.ending.Why.TheVariants as why
 use Rattle.task_ast.specs.declared.sync.SyncOp.{SyncOp}
 use Rattle.task_ast.specs.declared.sync.SyncOp.TheVariants as sync
 use Rattle.task_ast.specs.declared.sync.Next.{Next}
-use Rattle.task_ast.specs.Table.{Seat, Table, next_of, owner_in, unpassed, is_known_end, waits_at}
+use Rattle.task_ast.specs.Table.{Seat, Table, next_of, owner_in, unpassed, waits_at}
 use Rattle.task_ast.specs.Turn.{Turn, Needs, Ended, To, look_at, look, passing, issuing, stand_of, released_at, arrived, met, come_to, at_barrier, at_join, last_of, stuck, tried, deadlocked, at_look, turn, turns_left, next_issue}
 use Rattle.task_ast.specs.meaning.Repeat.{Again, Done, go_on}
 use Rattle.task_ast.specs.meaning.Table.{Stand, Away, Waits, Released, is_waiting, is_end, numbers, ring, with_nth}
 use Rattle.task_ast.proofs.Looks.{numbers-first}
 use Rattle.task_ast.proofs.Rounds.{keeps_map, other_nth}
 use Rattle.task_ast.proofs.Turns.{next_issue_step}
-use Rattle.ended_seats.specs.Idle.{is_idle, idle_at, passed_at, IdleBetween, PassedWithin}
-use Rattle.ended_seats.proofs.Idle.{ended}
+use Rattle.ended_seats.specs.Idle.{passed_at, PassedWithin}
 use Rattle.one_thread.specs.inner.View.{token_of}
 use Rattle.one_thread.specs.inner.Resting.{is_going, stalls, rests_at, rests, RestBetween, looking, Alike}
 
@@ -493,29 +492,6 @@ module _ (table : Table) where
         let two = second t (omega (arith, less)) low (second_at so) in
         let up = two.enough in
         ends t two.to two.rest 0 start (omega (arith, less, within)) (omega (arith, less, up)) less going two.walked
-
--- ---- walks over threads that rest
-
--- a thread that has ended and has not passed rests
-idle-rests : (table : Table) (t : ℕ) → idle_at table.seats t ≡ true → rests table t ≡ true
-idle-rests table t e = go (slice_get table.seats t) e
-  where
-    by_next : (o : Option Next) → is_known_end o ≡ true → rests_at o table t ≡ true
-    by_next None e = absurd (false≢true e)
-    by_next (Some next) e = ap (λ b. b || stalls next.sync table t) e
-
-    go : (o : Option Seat) → unwrap_or (option_map is_idle o) false ≡ true → rests_at (option_and_then (λ s. s.next) o) table t ≡ true
-    go None e = absurd (false≢true e)
-    go (Some seat) e = by_next seat.next (ended seat e)
-
-pub further-rests : (table : Table) (from t n : ℕ) → rests table t ≡ true → RestBetween from t table → IdleBetween t n table.seats
-    → RestBetween from (max (t + 1) n) table
-further-rests table from t n rest before after u l m = go (cases_lt u t) (cases_eq u t)
-  where
-    go : (u < t) ⊎ (t ≤ u) → (u ≡ t) ⊎ (u ≡ t → ⊥) → rests table u ≡ true
-    go (inl below) c = before u l below
-    go (inr above) (inl e) = ap (rests table) e ∙ rest
-    go (inr above) (inr other) = idle-rests table u (after u above (omega (arith, above, m, other)))
 
 -- none has passed where none may have
 pub none-passed : (first last : ℕ) (seats : List Seat) → PassedWithin first last seats → last < first → (t : ℕ) → passed_at seats t ≡ false

@@ -15,6 +15,7 @@ pub mod Performing
 pub mod Ranges
 pub mod Running
 pub mod Settling
+pub mod Sleepers
 pub mod Steps
 pub mod SubthreadRuns
 pub mod TaskVariables

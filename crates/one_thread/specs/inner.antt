@@ -5,6 +5,7 @@ pub mod Places
 pub mod Remaining
 pub mod Resting
 pub mod Runs
+pub mod Sleeping
 pub mod Subthreads
 pub mod View
 pub mod Walking

@@ -12,6 +12,7 @@ mod reckoning;
 mod resting;
 mod run;
 mod seats;
+mod sleeping;
 mod standing;
 mod threads;
 mod turns;

@@ -1,12 +1,14 @@
 // Threads that can't go on, over which the token goes in one step.
-ghost use Rattle.std.specs.Prelude.{◌≡◌, ℕ, ◌<◌, ◌≤◌, false, length};
+ghost use Rattle.std.specs.Prelude.{◌≡◌, ◌<◌, ◌≤◌, false, length, IfOk, OnOk};
 ghost use Rattle.task_ast.specs.Table.{next_of};
 ghost use Rattle.task_ast.specs.Turn.{turns_left, next_issue};
 ghost use Rattle.one_thread.specs.inner.Resting.{stalls, rests, RestBetween};
 ghost use Rattle.one_thread.specs.inner.View.{table_of, WalksStand};
 
 use crate::seats::{Stand, Table};
+use crate::sleeping::keep;
 use crate::turns::joined;
+use std::alloc::AllocError;
 use task_ast::SyncOp;
 
 impl Table {
@@ -54,51 +56,52 @@ impl Table {
         }
     }
 
-    // The first of these threads that does not rest, or the place after them. Ways over threads that have ended are kept.
-    fn first_awake(&mut self, from: usize, to: usize) -> usize
+    // The first of these threads that does not rest, or one after them. Ways over those that sleep are kept.
+    fn first_awake(&mut self, from: usize, to: usize) -> Result<usize, AllocError>
         requires within { to ≤ length self.old.seats.items }
         requires walks { WalksStand self.old }
-        ensures rest { RestBetween from result (table_of self.old) }
-        ensures onward { from ≤ result }
-        ensures awake { result < to → rests (table_of self.old) result ≡ false }
+        ensures rest { IfOk result (λ t. RestBetween from t (table_of self.old)) }
+        ensures onward { IfOk result (λ t. from ≤ t) }
+        ensures awake { IfOk result (λ t. t < to → rests (table_of self.old) t ≡ false) }
         ensures table { table_of self.new ≡ table_of self.old }
         ensures owners { self.new.owners ≡ self.old.owners }
-        ensures walks { WalksStand self.new }
+        ensures walks { OnOk result (WalksStand self.new) }
     {
         let mut t = from;
         while t < to {
-            self.shorten(t);
-            let seat = &self.seats[t];
-            if !self.rests(t) {
-                return t;
+            let next = self.past_sleepers(t);
+            keep(&mut self.ways, t, next)?;
+            if next >= to || !self.rests(next) {
+                return Ok(next);
             }
-            t = (t + 1).max(seat.onward);
+            t = next + 1;
         }
-        t
+        Ok(t)
     }
 
     /// The token looks first at the next thread that does not rest, where no thread has passed since the last issue or
     /// arrival: those before it would pass, and what comes then is the same.
-    pub fn skip(&mut self)
+    pub fn skip(&mut self) -> Result<(), AllocError>
         requires walks { WalksStand self.old }
-        ensures issue { next_issue (table_of self.old) ≡ next_issue (table_of self.new) }
+        ensures issue { OnOk result (next_issue (table_of self.old) ≡ next_issue (table_of self.new)) }
         ensures left { turns_left (table_of self.new) ≡ turns_left (table_of self.old) }
         ensures owners { self.new.owners ≡ self.old.owners }
-        ensures walks { WalksStand self.new }
+        ensures walks { OnOk result (WalksStand self.new) }
     {
         if self.passed.first <= self.passed.last {
-            return;
+            return Ok(());
         }
         let start = self.start;
         let all = self.seats.len();
-        let later = self.first_awake(start, all);
+        let later = self.first_awake(start, all)?;
         if later < all {
             self.start = later;
-            return;
+            return Ok(());
         }
-        let earlier = self.first_awake(0, start);
+        let earlier = self.first_awake(0, start)?;
         if earlier < start {
             self.start = earlier;
         }
+        Ok(())
     }
 }

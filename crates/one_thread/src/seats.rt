@@ -9,6 +9,7 @@ ghost use Rattle.ended_seats.specs.Idle.{is_idle, IdleBetween, IdleOver, Uncover
 ghost use Rattle.one_thread.specs.inner.View.{table_of, seat_of, onward_of, WalksStand};
 
 use crate::owners::Owners;
+use crate::sleeping::wake;
 use std::alloc::{AllocError, Global};
 use task_ast::{Next, SyncOp};
 
@@ -39,7 +40,8 @@ pub struct Passed {
     pub last: usize,
 }
 
-/// The thread table. The token looks first at the thread `start`. At most so many threads wait at barriers.
+/// The thread table. The token looks first at the thread `start`. At most so many threads wait at barriers. Each thread from t
+/// up to `ways[t]`, where that is kept, has ended or waits at a barrier.
 #[derive(Drop)]
 pub struct Table {
     pub limit: u32,
@@ -49,6 +51,7 @@ pub struct Table {
     pub waits: usize,
     pub owners: Owners,
     pub start: usize,
+    pub ways: Vec<usize>,
     pub issued: u32,
 }
 
@@ -153,6 +156,7 @@ impl Table {
             waits: 0,
             owners,
             start: 0,
+            ways: Vec::new(alloc),
             issued: 0,
         })
     }
@@ -227,6 +231,7 @@ impl Table {
         ensures walks { WalksStand self.new }
     {
         uncover(&mut self.seats, t);
+        wake(&mut self.ways, &self.seats, t);
         self.seats[t].next = Some(next);
     }
 }

@@ -13,6 +13,7 @@ ghost use Rattle.ended_seats.specs.Idle.{IdleOver, onward_after};
 ghost use Rattle.one_thread.specs.inner.View.{table_of, seat_of, onward_of, gives, gave, Halts, WalksStand};
 
 use crate::seats::{Passed, Seat, Stand, Table, clear, new_seat};
+use crate::sleeping::wake;
 use gp_base::limits::MOST_THREADS;
 use gp_base::{End, Pos, ThreadNo, Why};
 use std::alloc::{AllocError, Global};
@@ -113,6 +114,7 @@ impl Table {
         if self.issued >= self.limit {
             return Ok(Turn::Ended(End::Spent(Pos(self.limit))));
         }
+        wake(&mut self.ways, &self.seats, t);
         let Some(next) = begin(&mut self.seats[t], self.issued) else {
             return Ok(Turn::Needs(t));
         };
@@ -216,6 +218,7 @@ impl Table {
         if stated <= there as u64 {
             release(&mut self.seats, barrier);
             self.waits = self.waits.saturating_sub(there);
+            self.ways.clear();
         }
     }
 
@@ -339,7 +342,7 @@ impl Table {
         ensures walks { OnOk result (WalksStand self.new) }
     {
         loop {
-            self.skip();
+            self.skip()?;
             match self.turn(alloc)? {
                 Turn::Pass => {}
                 turn => return Ok(turn),

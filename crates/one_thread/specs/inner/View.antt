@@ -11,6 +11,7 @@ use Rattle.one_thread.specs.declared.seats.Seat.{Seat}
 use Rattle.one_thread.specs.declared.seats.Table.{Table}
 use Rattle.one_thread.specs.declared.turns.Turn.{Turn}
 use Rattle.one_thread.specs.declared.turns.Turn.TheVariants as here
+use Rattle.one_thread.specs.inner.Sleeping.{SleepOver}
 
 abbrev pub stand_view : Stand → meaning.Stand
 stand_view stands.Away = meaning.Away
@@ -44,6 +45,7 @@ onward_of seat = seat.onward
 pub record WalksStand (table : Table) : Type 0 where
   pub walks : Walks (map onward_of table.seats.items) table.passed.first table.passed.last table.waits (map seat_of table.seats.items)
   pub start : table.start ≤ length table.seats.items
+  pub sleep : SleepOver table.ways.items (map seat_of table.seats.items)
 
 -- what a turn gave, where the table stands so afterwards
 abbrev pub gives : Turn → plain.Table → Again plain.Table there.Turn

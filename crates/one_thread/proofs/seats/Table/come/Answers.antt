@@ -8,6 +8,7 @@ use Rattle.task_ast.proofs.SeenSeats.{arrived-is}
 use Rattle.one_thread.specs.declared.seats.Stand.TheVariants.{Waits}
 use Rattle.task_ast.specs.Table.{unpassed}
 use Rattle.ended_seats.proofs.Walks.{arrived_as}
+use Rattle.one_thread.proofs.Sleepers.{put-asleep, arrives, cleared-sleep}
 use Rattle.one_thread.proofs.seats.Table.come.Goals as goal
 
 pub clear-requires-clause-idle : goal.clear-requires-clause-idle
@@ -40,4 +41,9 @@ returns-clause-walks c =
           (get-at items c.args.t c.index_mut.result.now (search rules) c.index_mut.ensures.value) c.requires.live refl refl
           (λ n a b. omega (arith, a, b, most, c.saturating_add-self.ensures)) c.requires.walks.walks;
       start = search rules;
+      sleep =
+          put-asleep seat_of self.ways.items items c.args.t c.index_mut.result.now (record c.index_mut.result.now { stand = Waits })
+          (get-at items c.args.t c.index_mut.result.now (search rules) c.index_mut.ensures.value)
+          (arrives c.index_mut.result.now.next (seat_of c.index_mut.result.now).stand)
+          (cleared-sleep seat_of self.ways.items self.seats.items items (ap (map seat_of) same ∙ seats) c.requires.walks.sleep);
     }

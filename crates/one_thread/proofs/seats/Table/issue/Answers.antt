@@ -5,10 +5,12 @@ use Rattle.std.proofs.lemmas.Bool.{lt-ltb}
 use Rattle.task_ast.proofs.Looks.{get-at}
 use Rattle.task_ast.proofs.SeenSeats.{issued-as}
 use Rattle.ended_seats.specs.Idle.{IdleOver, PassedWithin, Walks}
+use Rattle.one_thread.specs.inner.Sleeping.{SleepOver}
 use Rattle.one_thread.specs.inner.View.{table_of, seat_of, onward_of}
 use Rattle.one_thread.proofs.Looking.{token-is}
 use Rattle.task_ast.specs.Table.{unpassed}
 use Rattle.ended_seats.proofs.Walks.{begun_as, cleared_as, issued_as, grown_within}
+use Rattle.one_thread.proofs.Sleepers.{put-uncrossed, cleared-sleep, issued-sleep}
 use Rattle.one_thread.proofs.seats.Table.issue.Goals as goal
 use Rattle.one_thread.proofs.seats.Table.issue.Goals.{After-begin}
 
@@ -38,10 +40,19 @@ begun c =
     self.waits (get-at self.seats.items c.args.t c.index_mut.result.now c.requires.exists c.index_mut.ensures.value) c.requires.live
     c.begin.ensures.onward c.begin.ensures.seat c.requires.walks.walks
 
+-- no way goes over it
+around : (c : After-begin) → SleepOver c.wake.new.ways.items (map seat_of (set c.args.self.now.seats.items c.args.t c.begin.new.seat))
+around c =
+    let self = c.args.self.now in
+    put-uncrossed seat_of c.wake.new.ways.items self.seats.items c.args.t c.index_mut.result.now c.begin.new.seat
+    (get-at self.seats.items c.args.t c.index_mut.result.now c.requires.exists c.index_mut.ensures.value) c.wake.ensures.uncrossed
+    (subst (λ xs. SleepOver c.wake.new.ways.items (map seat_of xs)) c.deref.ensures.value c.wake.ensures.sleep)
+
 pub returns-in_default-clause-walks : goal.returns-in_default-clause-walks
 returns-in_default-clause-walks c = record {
   walks = begun (goal.at.returns-in_default-clause-walks c).After-begin;
   start = search rules;
+  sleep = around (goal.at.returns-in_default-clause-walks c).After-begin;
 }
 
 pub clear-requires-clause-idle : goal.clear-requires-clause-idle
@@ -68,4 +79,8 @@ returns-clause-walks c =
           (ap (map onward_of) same ∙ ways) (begun (goal.at.returns-clause-walks c).After-begin));
       start =
           grown_within seat_of c.in-Some.next.sync (c.args.t + 1) _ _ c.in_ok-child.ensures.seats (search rules);
+      sleep =
+          issued-sleep seat_of c.wake.new.ways.items c.in-Some.next.sync _ _ c.in_ok-child.ensures.seats
+          (cleared-sleep seat_of c.wake.new.ways.items old _ (ap (map seat_of) same ∙ seats)
+          (around (goal.at.returns-clause-walks c).After-begin));
     }

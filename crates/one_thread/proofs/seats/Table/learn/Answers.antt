@@ -2,11 +2,13 @@ use Rattle.std.proofs.Common.{◌≡◌, ◌∙◌, inl, ap, sym, refl, subst, m
 use Rattle.std.specs.Vec.{with_items}
 use Rattle.std.proofs.lemmas.List.{with_items_is}
 use Rattle.ended_seats.specs.Idle.{IdleOver, Uncovered}
+use Rattle.one_thread.specs.inner.Sleeping.{SleepOver}
 use Rattle.one_thread.specs.inner.View.{table_of, seat_of, onward_of}
 use Rattle.task_ast.proofs.Looks.{get-at}
 use Rattle.task_ast.proofs.ChangedSeats.{map-replaced}
 use Rattle.task_ast.specs.meaning.Table.{with_nth}
 use Rattle.ended_seats.proofs.Walks.{put, same_as}
+use Rattle.one_thread.proofs.Sleepers.{put-uncrossed}
 use Rattle.one_thread.proofs.seats.Table.learn.Goals as goal
 
 pub uncover-requires-clause-idle : goal.uncover-requires-clause-idle
@@ -40,4 +42,8 @@ returns-clause-walks c =
           (subst (λ xs. IdleOver (map onward_of xs) (map seat_of self.seats.items)) (sym same)
           (subst (IdleOver (map onward_of c.uncover.new.seats)) old c.uncover.ensures.idle)) c.requires.walks.walks);
       start = search rules;
+      sleep =
+          put-uncrossed seat_of c.wake.new.ways.items items c.args.t c.index_mut.result.now _
+          (get-at items c.args.t c.index_mut.result.now (search rules) c.index_mut.ensures.value) c.wake.ensures.uncrossed
+          (subst (λ xs. SleepOver c.wake.new.ways.items (map seat_of xs)) c.deref.ensures.value c.wake.ensures.sleep);
     }

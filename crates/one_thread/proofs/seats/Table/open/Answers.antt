@@ -8,6 +8,7 @@ use Rattle.task_ast.specs.Table.{waits_at}
 use Rattle.task_ast.specs.Turn.{released_at}
 use Rattle.one_thread.specs.inner.View.{table_of, seat_of, onward_of}
 use Rattle.ended_seats.proofs.Walks.{released_as, waits_most}
+use Rattle.one_thread.proofs.Sleepers.{no-way}
 use Rattle.one_thread.proofs.seats.Table.open.Goals as goal
 
 pub returns-then-self-stated-clause-table : goal.returns-then-self-stated-clause-table
@@ -44,4 +45,5 @@ returns-then-stated-there-clause-walks c =
           self.waits c.args.barrier c.waiting-there.result (ap (map seat_of) same ∙ seats) (ap (map onward_of) same ∙ ways) number
           c.requires.walks.walks);
       start = search rules;
+      sleep = no-way _ _ (search rules);
     }

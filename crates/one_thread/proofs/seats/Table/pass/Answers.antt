@@ -5,6 +5,7 @@ use Rattle.task_ast.proofs.ChangedSeats.{map-replaced}
 use Rattle.one_thread.specs.inner.View.{table_of, seat_of, onward_of}
 use Rattle.one_thread.proofs.Looking.{token-is}
 use Rattle.ended_seats.proofs.Walks.{put_live}
+use Rattle.one_thread.proofs.Sleepers.{put-asleep}
 use Rattle.one_thread.proofs.seats.Table.pass.Goals as goal
 
 pub returns-clause-turn : goal.returns-clause-turn
@@ -22,4 +23,9 @@ returns-clause-walks c =
           (get-at c.args.self.now.seats.items c.args.t c.index_mut.result.now c.requires.exists c.index_mut.ensures.value) c.requires.live refl
           c.with-self.ensures.wider (λ e. inr c.with-self.ensures.thread) (λ n a b. omega (arith, a)) c.requires.walks.walks;
       start = search rules;
+      sleep =
+          put-asleep seat_of c.args.self.now.ways.items c.args.self.now.seats.items c.args.t c.index_mut.result.now
+          (record c.index_mut.result.now { passed = true })
+          (get-at c.args.self.now.seats.items c.args.t c.index_mut.result.now c.requires.exists c.index_mut.ensures.value) (λ e. e)
+          c.requires.walks.sleep;
     }

@@ -1,5 +1,6 @@
-use Rattle.std.proofs.Common.{◌<◌, ap, subst, refl, length, map, arith, rules}
+use Rattle.std.proofs.Common.{◌<◌, ap, sym, subst, refl, length, map, arith, rules}
 use Rattle.std.proofs.lemmas.List.{length-map}
+use Rattle.one_thread.specs.inner.Sleeping.{SleepOver}
 use Rattle.one_thread.specs.inner.View.{table_of, seat_of, onward_of}
 use Rattle.task_ast.proofs.Looks.{get-at}
 use Rattle.ended_seats.proofs.Idle.{idle_within}
@@ -32,4 +33,9 @@ returns-then-from-busy-clause-walks c =
           (get-at self.seats.items c.args.from seat (there (goal.at.returns-then-from-busy-clause-walks c).Then-from-busy)
           c.index_mut.ensures.value) refl c.first_busy-busy.ensures c.requires.walks.walks;
       start = search rules;
+      sleep =
+          subst (SleepOver self.ways.items)
+          (sym (map-kept seat_of self.seats.items c.args.from seat _
+          (get-at self.seats.items c.args.from seat (there (goal.at.returns-then-from-busy-clause-walks c).Then-from-busy)
+          c.index_mut.ensures.value) refl)) c.requires.walks.sleep;
     }

@@ -31,21 +31,21 @@ pub returns-then-later-all-clause-issue : goal.returns-then-later-all-clause-iss
 returns-then-later-all-clause-issue c =
     let self = c.args.self.now in
     let here = (goal.at.returns-then-later-all-clause-issue c).After-len-all in
-    let less : c.first_awake-later.result < c.len-all.result = omega arith in
-    jumped (table_of self) self.start (within here) (none here) c.first_awake-later.result c.first_awake-later.ensures.onward
-    (subst (λ n. c.first_awake-later.result < n) (all here) less) c.first_awake-later.ensures.rest
-    (c.first_awake-later.ensures.awake less)
-    ∙ ap (λ (table : Table). next_issue (looking table c.first_awake-later.result)) (sym c.first_awake-later.ensures.table)
+    let less : c.in_ok-later.later < c.len-all.result = omega arith in
+    jumped (table_of self) self.start (within here) (none here) c.in_ok-later.later c.in_ok-later.ensures.onward
+    (subst (λ n. c.in_ok-later.later < n) (all here) less) c.in_ok-later.ensures.rest
+    (c.in_ok-later.ensures.awake less)
+    ∙ ap (λ (table : Table). next_issue (looking table c.in_ok-later.later)) (sym c.in_ok-later.ensures.table)
 
 pub returns-then-earlier-start-clause-issue : goal.returns-then-earlier-start-clause-issue
 returns-then-earlier-start-clause-issue c =
     let self = c.args.self.now in
     let here = (goal.at.returns-then-earlier-start-clause-issue c).After-len-all in
     let n = all here in
-    let less : c.first_awake-earlier.result < self.start = omega arith in
-    let same = c.first_awake-later.ensures.table in
-    jumped-round (table_of self) self.start (within here) (none here) c.first_awake-earlier.result less
-    (λ u a b. c.first_awake-later.ensures.rest u a (omega (arith, b, n)))
-    (subst (RestBetween 0 c.first_awake-earlier.result) same c.first_awake-earlier.ensures.rest)
-    (subst (λ (table : Table). rests table c.first_awake-earlier.result ≡ false) same (c.first_awake-earlier.ensures.awake less))
-    ∙ ap (λ (table : Table). next_issue (looking table c.first_awake-earlier.result)) (sym (c.first_awake-earlier.ensures.table ∙ same))
+    let less : c.in_ok-earlier.earlier < self.start = omega arith in
+    let same = c.in_ok-later.ensures.table in
+    jumped-round (table_of self) self.start (within here) (none here) c.in_ok-earlier.earlier less
+    (λ u a b. c.in_ok-later.ensures.rest u a (omega (arith, b, n)))
+    (subst (RestBetween 0 c.in_ok-earlier.earlier) same c.in_ok-earlier.ensures.rest)
+    (subst (λ (table : Table). rests table c.in_ok-earlier.earlier ≡ false) same (c.in_ok-earlier.ensures.awake less))
+    ∙ ap (λ (table : Table). next_issue (looking table c.in_ok-earlier.earlier)) (sym (c.in_ok-earlier.ensures.table ∙ same))
