@@ -2,14 +2,13 @@
 -- is a beginning of the longer one. Where the shorter reading stops, no line stands, so neither goes on beyond the
 -- other; and where both stop at a row that is no line, it is the same row. The answers to the file follow from what is
 -- read.
-use Rattle.std.proofs.Common.{◌≡◌, ◌≢◌, ◌<◌, ◌≤◌, ◌+◌, ℕ, true, false, List, [], ◌∷◌, ◌++◌, length, take, drop, Contains, IfSome, refl, sym, ap, subst, ◌∙◌, arith, append_assoc, inl, inr, nat_lt, if◌then◌else◌}
+use Rattle.std.proofs.Common.{◌≡◌, ◌≢◌, ◌<◌, ◌≤◌, ◌+◌, ℕ, List, [], ◌∷◌, ◌++◌, length, take, drop, Contains, IfSome, refl, sym, ap, subst, ◌∙◌, arith, append_assoc, inl, inr}
 use Rattle.std.specs.List.{All}
 use Rattle.std.specs.Prelude.{IsSomeAnd}
 use Rattle.std.specs.declared.option.Option.{Option}
 use Rattle.std.specs.declared.option.Option.TheVariants.{None, Some}
 use Rattle.std.specs.declared.result.Result.{Result}
 use Rattle.std.specs.declared.result.Result.TheVariants.{Ok, Err}
-use Rattle.std.proofs.lemmas.Bool.Decides.{nat_tests}
 use Rattle.std.proofs.lemmas.Bool.{cases_lt}
 use Rattle.std.proofs.Math.Seq.{take-append_seam}
 use Rattle.std.proofs.lemmas.List.{append-nil, take-append-le, take-append-drop}
@@ -31,11 +30,17 @@ use Rattle.gp_audit.proofs.Traces.{few-lines}
 use Rattle.call_cases.specs.declared.reading.Refusal.{Refusal}
 use Rattle.call_cases.specs.declared.reading.Refusal.TheVariants.{Usage, BadProgram, BadInput, ReadFault, OutOfMemory}
 use Rattle.call_cases.specs.meaning.Work.{Files, ToDo, Refused}
+use Rattle.call_cases.specs.meaning.Journals.{dependence_for}
 use Rattle.call_cases.specs.meaning.Lines.{input_line}
 use Rattle.call_cases.specs.Refusals.{IsInputRefused, ReadsAmong, AnswersFile}
 use Rattle.call_cases.proofs.Loads.{only_one}
-use Rattle.audit_calls.specs.meaning.Tried.{Reads, Judge, by_trace_rows}
-use Rattle.audit_calls.specs.inner.Trials.{AnswersLines}
+use Rattle.audit_calls.specs.meaning.Tried.{of_lines, of_row}
+use Rattle.audit_calls.specs.inner.Trials.{Judge, Traced, AnswersLines}
+
+-- the bytes are those of a trace with these lines, or this row, counted from 1, is the first that is none
+abbrev pub Reads : (bytes : List ℕ) → Result (List TraceLine) ℕ → Type 0
+Reads bytes (Ok lines) = IsTrace bytes lines
+Reads bytes (Err row) = IsBrokenAt bytes row
 
 -- what was read, as an answer that memory may keep back
 abbrev pub told : Result (List TraceLine) ℕ → Result (List TraceLine) TraceFault
@@ -130,31 +135,17 @@ input_unread T names failed line (BadInput other) is = refl
 input_unread T names failed line (ReadFault name) is = absurd is
 input_unread T names failed line OutOfMemory is = tt
 
-within_file : (text : List ℕ) → length text ≤ MOST_FILE_BYTES → nat_lt MOST_FILE_BYTES (length text) ≡ false
-within_file text within = grind (arith, nat_tests, within)
-
-past_file : (text : List ℕ) → MOST_FILE_BYTES < length text → nat_lt MOST_FILE_BYTES (length text) ≡ true
-past_file text above = grind (arith, nat_tests, above)
-
 module _ (judge : Judge) (names : List Name) (file : Name) (work : ToDo) where
-  -- a text that is short enough comes to what it is read as
-  by_reading : (text : List ℕ) (read : Result (List TraceLine) ℕ) → length text ≤ MOST_FILE_BYTES → Reads text read
-      → (if nat_lt MOST_FILE_BYTES (length text) then Refused 4 (names ++ file ∷ [])
-      (input_line file 6 0) else by_trace_rows judge names file work (judge.lines_of text)) ≡ by_trace_rows judge names file work read
-  by_reading text read within is =
-      ap (λ b. if b then Refused 4 (names ++ file ∷ []) (input_line file 6 0) else by_trace_rows judge names file work (judge.lines_of text))
-      (within_file text within)
-      ∙ ap (by_trace_rows judge names file work) (one_reading text (judge.lines_of text) read (judge.reads text) is)
-
   pub lines_told : (text : List ℕ) (lines : List TraceLine) → length text ≤ MOST_FILE_BYTES → AnswersTrace text (Ok lines)
       → AnswersLines judge names file work (Some text) (Ok lines)
-  lines_told text lines within is = by_reading text (Ok lines) within is
+  lines_told text lines within is = inr (within, of_lines is (judge.judges (dependence_for work) work.faults lines))
 
   pub row_told : (text : List ℕ) (row : ℕ) (refusal : Refusal) → length text ≤ MOST_FILE_BYTES → IsBrokenAt text row
       → IsInputRefused (input_line file 9 row) refusal → AnswersLines judge names file work (Some text) (Err refusal)
   row_told text row Usage within broken is = is
   row_told text row (BadProgram line) within broken is = is
-  row_told text row (BadInput line) within broken is = by_reading text (Err row) within broken ∙ ap (Refused 4 (names ++ file ∷ [])) (sym is)
+  row_told text row (BadInput line) within broken is =
+      subst (λ l. Traced names file work (Some text) (Refused 4 (names ++ file ∷ []) l)) (sym is) (inr (within, of_row broken))
   row_told text row (ReadFault name) within broken is = absurd is
   row_told text row OutOfMemory within broken is = tt
 
@@ -169,9 +160,7 @@ module _ (judge : Judge) (names : List Name) (file : Name) (work : ToDo) where
   long_told : (bytes : Option (List ℕ)) (line : List ℕ) → line ≡ input_line file 6 0
       → IsSomeAnd bytes (λ text. MOST_FILE_BYTES < length text) → AnswersLines judge names file work bytes (Err (BadInput line))
   long_told None line is above = absurd above
-  long_told (Some text) line is above =
-      ap (λ b. if b then Refused 4 (names ++ file ∷ []) (input_line file 6 0) else by_trace_rows judge names file work (judge.lines_of text))
-      (past_file text above) ∙ ap (Refused 4 (names ++ file ∷ [])) (sym is)
+  long_told (Some text) line is above = inl (above, ap (Refused 4 (names ++ file ∷ [])) is)
 
   pub unread_told : (T : Type 0) (files : Option Files) (before now : List Name) (refusal : Refusal)
       → IfSome files (λ told. AnswersFile file (bytes_of told file) (Err refusal))

@@ -1,4 +1,4 @@
--- There is a judge: how a trace is read, and how its lines are judged, can be decided. Each question is decided by
+-- How a trace is read, and how its lines are judged, can be decided. Each question is decided by
 -- itself, and the answers are put together: whether a text begins with another, whether with a number below the limit
 -- (by trying each one), and so whether with a line of each kind. Lines are read from the front, with the length of what
 -- is left as the bound of the recursion.
@@ -22,13 +22,15 @@ use Rattle.gp_audit.specs.declared.line.TraceLine.TheVariants as line
 use Rattle.gp_audit.specs.declared.verdict.Verdict.{Verdict}
 use Rattle.gp_audit.specs.declared.verdict.Verdict.TheVariants.{Lawful, Unlawful, Incomplete}
 use Rattle.gp_audit.specs.LineTexts.{line_text, lines_text, redo_end, restart_end, IsNarrow, IsNarrowLine, IsNarrowRestart}
+use Rattle.gp_audit.specs.meaning.Verdicts.{LawfulLines, IsVerdict}
 use Rattle.gp_audit.specs.ToldLines.{events_of, restarts_told, TellLawful, IsToldVerdict}
 use Rattle.gp_audit.proofs.Parts.{cancel}
 use Rattle.gp_audit.proofs.Restarts.{head, parts, first_apart}
 use Rattle.gp_audit.proofs.ToldVerdicts.{told-verdict}
 use Rattle.gp_audit.proofs.TraceTexts.{trace-of, broken-of}
 use Rattle.gp_audit.proofs.Traces.{text-next, few-lines}
-use Rattle.audit_calls.specs.meaning.Tried.{Reads, Judge}
+use Rattle.audit_calls.specs.inner.Trials.{Judge}
+use Rattle.audit_calls.proofs.Readings.{Reads}
 
 -- it holds, or it doesn't
 abbrev Choice : Type 0 → Type 0
@@ -326,13 +328,25 @@ read_from (suc fuel) bytes lines (b ∷ rest) short narrow is =
       )
     ]
 
+pub some_reading : (bytes : List ℕ) → (result : Result (List TraceLine) ℕ) × Reads bytes result
+some_reading bytes = read_from (length bytes) bytes [] bytes (omega arith) (All-nil IsNarrowLine) refl
+
+pub some_verdict : (dependence : Dependence) (faults : List Fault) (lines : List TraceLine) → (verdict : Verdict) × IsVerdict dependence faults lines verdict
+some_verdict dependence faults lines =
+    let found = judged dependence faults lines in (found.0, told-verdict dependence faults lines found.0 found.1)
+
+-- and that on lines that are lawful
+pub lawful_verdict : (dependence : Dependence) (faults : List Fault) (lines : List TraceLine) → LawfulLines dependence faults lines
+    → IsVerdict dependence faults lines Lawful ⊎ IsVerdict dependence faults lines Incomplete
+lawful_verdict dependence faults lines lawful =
+    elim (decided_by (is_complete dependence faults lawful.events) (complete-decides dependence faults lawful.events)) [
+      | inl whole ↦ inl (lawful, whole)
+      | inr not ↦ inr (lawful, not)
+    ]
+
 pub some_judge : Judge
 some_judge =
-    let read = λ (bytes : List ℕ). read_from (length bytes) bytes [] bytes (omega arith) (All-nil IsNarrowLine) refl in
     record {
-      lines_of = λ bytes. (read bytes).0;
-      reads = λ bytes. (read bytes).1;
-      verdict_of = λ dependence faults lines. (judged dependence faults lines).0;
-      judges = λ dependence faults lines.
-          (let found = judged dependence faults lines in told-verdict dependence faults lines found.0 found.1);
+      verdict_of = λ dependence faults lines. (some_verdict dependence faults lines).0;
+      judges = λ dependence faults lines. (some_verdict dependence faults lines).1;
     }

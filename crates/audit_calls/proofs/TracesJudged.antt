@@ -31,14 +31,15 @@ use Rattle.call_cases.specs.meaning.Case.{IsCase, ForCase, status_of, text_of}
 use Rattle.call_cases.specs.meaning.RunCommands as run
 use Rattle.call_cases.specs.meaning.Headline.{Call, MeetsCase, Headline}
 use Rattle.call_cases.proofs.OneCase.{one_case_of}
-use Rattle.audit_calls.specs.meaning.Tried.{Reads, Judge, tried_with}
+use Rattle.gp_audit.specs.meaning.Lines.{IsTrace}
 use Rattle.audit_calls.specs.meaning.AuditCommands.{asking, commands}
 use Rattle.audit_calls.specs.meaning.Laws.{IsSameRun, TraceLaw}
-use Rattle.audit_calls.specs.inner.Trials.{AnswersLines}
+use Rattle.audit_calls.specs.inner.Trials.{Judge, tried_with, AnswersLines}
 use Rattle.command_line.proofs.RestartsAlone.{RestartsAlone}
 use Rattle.call_cases.proofs.AskedCases.{restarts_alone}
-use Rattle.audit_calls.proofs.Readings.{told, told_reads, told_lines, told_something, lines_told}
-use Rattle.audit_calls.proofs.TrialCases.{lines_case}
+use Rattle.audit_calls.proofs.Readings.{Reads, told, told_reads, told_lines, told_something, lines_told}
+use Rattle.audit_calls.proofs.SomeJudge.{some_reading, some_judge}
+use Rattle.audit_calls.proofs.TrialCases.{lines_case, supplies_once}
 
 -- a command that restarts alone recovers by restarts
 alone_recovering : (run : List Subthread) (c : Command) → RestartsAlone c → recovering_by c run ≡ dependence_of run
@@ -78,18 +79,18 @@ module _ (waits : Bool) (call : Call) (files : Files) (names : List Name) (work 
     counted = journal_of.counted;
   }
 
-  -- what a judge reads in its trace, and how these lines are judged
-  judged : (judge : Judge) → run.IsWhole call.status
-      → (lines : List TraceLine) × (judge.lines_of (trace_text call.journal) ≡ Ok lines)
+  -- what is read in its trace, and how these lines are judged
+  judged : run.IsWhole call.status
+      → (lines : List TraceLine) × IsTrace (trace_text call.journal) lines
       × ((verdict : Verdict) → IsVerdict (dependence_for work) work.faults lines verdict → verdict ≡ Lawful)
   unfolding dependence_for
-  judged judge whole =
+  judged whole =
       elim (audit-is-lawful (run_of work) work.faults call.journal (narrow_run waits call.words files names work is) (whole_run whole) (told read)
-      (told_reads text read (judge.reads text))) [
+      (told_reads text read (some_reading text).1)) [
         | inl out ↦ absurd (told_something read out)
         | inr found ↦ (
           found.0,
-          told_lines read found.0 found.1,
+          subst (Reads text) (told_lines read found.0 found.1) (some_reading text).1,
           λ verdict is_verdict. found.2 verdict (subst (λ (dependence : Dependence). IsVerdict dependence work.faults found.0 verdict)
               (sym (order-is (run_of work))) is_verdict),
         )
@@ -99,7 +100,7 @@ module _ (waits : Bool) (call : Call) (files : Files) (names : List Name) (work 
       text = trace_text call.journal
 
       read : Result (List TraceLine) ℕ
-      read = judge.lines_of (trace_text call.journal)
+      read = (some_reading (trace_text call.journal)).0
 
 -- what the same run says of dependence
 same_dependence : (work other : ToDo) → IsSameRun work other → dependence_for work ≡ dependence_for other
@@ -112,7 +113,7 @@ same_dependence work other same =
 
 same_verdict : (judge : Judge) (work other : ToDo) (lines : List TraceLine) → IsSameRun work other
     → ((verdict : Verdict) → IsVerdict (dependence_for work) work.faults lines verdict → verdict ≡ Lawful)
-    → (tried_with judge other lines).verdict ≡ Lawful
+    → tried_with judge other lines ≡ Lawful
 same_verdict judge work other lines same lawful =
     let verdict = judge.verdict_of (dependence_for other) other.faults lines in
     let faults =
@@ -122,17 +123,17 @@ same_verdict judge work other lines same lawful =
     (sym (same_dependence work other same)) faults)
 
 pub trace_law : TraceLaw
-trace_law judge waits call files names work headline known is runs whole within audited files' names' work' case is' same holds is_case =
+trace_law waits call files names work headline known is runs whole within audited files' names' work' case is' same holds is_case =
     let text = trace_text call.journal in
-    let found = judged waits call files names work headline known is runs judge whole in
-    let answers : AnswersLines judge names' audited.trace work' (bytes_of files' audited.trace) (Ok found.0) =
-    subst (λ bytes. AnswersLines judge names' audited.trace work' bytes (Ok found.0)) (sym holds)
-    (lines_told judge names' audited.trace work' text found.0 within (subst (Reads text) found.1 (judge.reads text))) in
+    let found = judged waits call files names work headline known is runs whole in
+    let answers : AnswersLines some_judge names' audited.trace work' (bytes_of files' audited.trace) (Ok found.0) =
+    subst (λ bytes. AnswersLines some_judge names' audited.trace work' bytes (Ok found.0)) (sym holds)
+    (lines_told some_judge names' audited.trace work' text found.0 within found.1) in
     let one =
-    one_case_of (asking judge) audited files' (Go (names' ++ audited.trace ∷ []) (tried_with judge work' found.0)) case
-    (lines_case judge audited files' names' work' found.0 is' answers) is_case in
-    let verdict = same_verdict judge work work' found.0 same found.2 in (
-      sym (ap (status_of (commands judge)) one) ∙ ap verdict_status verdict,
-      sym (ap (text_of (commands judge)) one)
+    one_case_of asking supplies_once audited files' (Go (names' ++ audited.trace ∷ []) (tried_with some_judge work' found.0)) case
+    (lines_case audited files' some_judge names' work' found.0 is' answers) is_case in
+    let verdict = same_verdict some_judge work work' found.0 same found.2 in (
+      sym (ap (status_of commands) one) ∙ ap verdict_status verdict,
+      sym (ap (text_of commands) one)
           ∙ ap verdict_text verdict,
     )

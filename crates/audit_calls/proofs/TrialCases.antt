@@ -1,7 +1,5 @@
--- The case of an audit goes on where that of its run would begin. The case comes to what is read, and that is followed
--- from the inside out: the rows of the trace, whether it is too long, its bytes, and so on up to the words; at each of
--- these the two cases are the same, mostly by computing both.
-use Rattle.std.proofs.Common.{◌≡◌, ℕ, Bool, true, false, List, [], ◌∷◌, ◌++◌, length, IfSome, refl, subst, nat_lt, if◌then◌else◌}
+-- The case of an audit goes on where that of its run would begin: with what comes of the file of the trace.
+use Rattle.std.proofs.Common.{◌≡◌, ℕ, List, [], ◌∷◌, ◌++◌, IfSome, refl, sym, ap, subst}
 use Rattle.std.specs.List.{Contains}
 use Rattle.std.specs.declared.option.Option.{Option}
 use Rattle.std.specs.declared.option.Option.TheVariants.{None, Some}
@@ -10,155 +8,168 @@ use Rattle.std.specs.declared.result.Result.TheVariants.{Ok, Err}
 use Rattle.std.proofs.Common.{arith}
 use Rattle.std.proofs.lemmas.List.Elements.{Contains-append_left, Contains-append_right}
 use Rattle.gp_base.specs.meaning.Files.{bytes_of}
-use Rattle.gp_base.specs.declared.limits.TheConstants.{MOST_FILE_BYTES}
-use Rattle.task_ast.specs.meaning.Tree.{Name, Program}
+use Rattle.task_ast.specs.meaning.Tree.{Name}
 use Rattle.gp_audit.specs.declared.line.TraceLine.{TraceLine}
+use Rattle.gp_audit.specs.declared.verdict.Verdict.{Verdict}
+use Rattle.gp_audit.specs.meaning.Verdicts.{IsVerdict}
+use Rattle.gp_audit.proofs.Fronts.{verdict_once}
 use Rattle.command_line.specs.meaning.AuditWords.{audited_by}
 use Rattle.command_line.specs.declared.audit_words.Audited.{Audited}
+use Rattle.call_cases.specs.declared.lines.Tool.TheVariants.{Gprs}
 use Rattle.call_cases.specs.declared.reading.Refusal.{Refusal}
 use Rattle.call_cases.specs.declared.reading.Refusal.TheVariants as refused
 use Rattle.call_cases.specs.meaning.Work.{Files, ToDo, Case, Refused, Go, after_file}
-use Rattle.call_cases.specs.meaning.InputFiles.{supplied_by, then_load}
+use Rattle.call_cases.specs.meaning.Journals.{dependence_for}
 use Rattle.call_cases.specs.meaning.Lines.{input_line}
 use Rattle.call_cases.specs.meaning.RunCommands as run
-use Rattle.call_cases.specs.meaning.Case.{IsCaseOf, no_program, of_text, names_read}
+use Rattle.call_cases.specs.meaning.Case.{IsCaseOf, names_read}
+use Rattle.call_cases.specs.meaning.Laws.{HasOneCase}
 use Rattle.call_cases.specs.Refusals.{RefusesCase, RefusesShelf, ReadsAmong}
-use Rattle.call_cases.proofs.Answering.{refuses_map}
-use Rattle.call_cases.proofs.Further.{further_asking, further_case, further, refuses_further}
+use Rattle.call_cases.proofs.Further.{further, refuses_further, further_once}
+use Rattle.call_cases.proofs.LastFiles.{file_shifts, file_some, file_one, file_reads}
 use Rattle.call_cases.proofs.Loads.{only_one}
-use Rattle.audit_calls.specs.meaning.Tried.{Judge, Tried, tried_with, by_trace_rows, by_trace, supplied}
+use Rattle.call_cases.proofs.OneCase.{SuppliesOne, has_one_case}
+use Rattle.audit_calls.specs.meaning.Tried.{Judges, of_lines, of_row}
 use Rattle.call_cases.specs.meaning.Headline.{ReadsNothing}
 use Rattle.audit_calls.specs.meaning.AuditCommands.{MayRead, of_run, the_trace, asking, commands}
-use Rattle.audit_calls.specs.inner.Trials.{AnswersLines}
+use Rattle.audit_calls.specs.inner.Trials.{Judge, tried_with, Traced, AnswersLines}
+use Rattle.audit_calls.proofs.Readings.{Reads, one_reading}
+use Rattle.audit_calls.proofs.SomeJudge.{some_reading, some_judge}
 
-module _ (judge : Judge) (audited : Audited) where
-  below_rows : (program : Name) (names : List Name) (work : ToDo) (rows : Result (List TraceLine) ℕ)
-      → after_file program (by_trace_rows judge names audited.trace work rows)
-      ≡ (by_trace_rows judge (program ∷ names) audited.trace work rows)
-  below_rows program names work (Ok lines) = refl
-  below_rows program names work (Err row) = refl
+-- what comes of the bytes of a trace, where another file is read before
+judges_shift : (file first : Name) (names : List Name) (work : ToDo) (bytes : List ℕ) (case : Case Verdict)
+    → Judges file (first ∷ names) work bytes case → (found : Case Verdict) × Judges file names work bytes found × (case ≡ after_file first found)
+judges_shift file first names work bytes case (of_lines {lines} {verdict} is judged) = (Go names verdict, of_lines is judged, refl)
+judges_shift file first names work bytes case (of_row is) = (_, of_row is, refl)
 
-  below_long : (program : Name) (names : List Name) (work : ToDo) (long : Bool) (rows : Result (List TraceLine) ℕ)
-      → after_file program (if long then Refused 4 (names ++ audited.trace ∷ [])
-      (input_line audited.trace 6 0) else by_trace_rows judge names audited.trace work rows)
-      ≡ (if long then Refused 4 ((program ∷ names) ++ audited.trace ∷ []) (input_line audited.trace 6 0) else by_trace_rows judge
-      (program ∷ names) audited.trace work rows)
-  below_long program names work true rows = refl
-  below_long program names work false rows = below_rows program names work rows
+judges_read : (file : Name) (names : List Name) (work : ToDo) (bytes : List ℕ) (case : Case Verdict) → Judges file names work bytes case
+    → names_read case ≡ names
+judges_read file names work bytes case (of_lines is judged) = refl
+judges_read file names work bytes case (of_row is) = refl
 
-  below_bytes : (program : Name) (names : List Name) (work : ToDo) (bytes : Option (List ℕ))
-      → after_file program (by_trace judge names audited.trace work bytes)
-      ≡ (by_trace judge (program ∷ names) audited.trace work bytes)
-  below_bytes program names work None = refl
-  below_bytes program names work (Some text) = below_long program names work (nat_lt MOST_FILE_BYTES (length text)) (judge.lines_of text)
+-- one case comes of them
+judges_some : (file : Name) (names : List Name) (work : ToDo) (bytes : List ℕ) → (case : Case Verdict) × Judges file names work bytes case
+judges_some file names work bytes = let found = some_reading bytes in go found.0 found.1
+  where
+    go : (result : Result (List TraceLine) ℕ) → Reads bytes result → (case : Case Verdict) × Judges file names work bytes case
+    go (Ok lines) is = (Go names (tried_with some_judge work lines), of_lines is (some_judge.judges (dependence_for work) work.faults lines))
+    go (Err row) is = (_, of_row is)
+
+judges_one : (file : Name) (names : List Name) (work : ToDo) (bytes : List ℕ) (a b : Case Verdict) → Judges file names work bytes a
+    → Judges file names work bytes b → a ≡ b
+judges_one file names work bytes a b (of_lines {lines} {verdict} is judged) (of_lines {lines = lines'} {verdict = verdict'} is' judged') =
+    let read = one_reading bytes (Ok lines) (Ok lines') is is' in
+    let same : lines ≡ lines' = cc read in
+    ap (Go names) (verdict_once (dependence_for work) work.faults lines verdict verdict' judged
+    (subst (λ ls. IsVerdict (dependence_for work) work.faults ls verdict') (sym same) judged'))
+judges_one file names work bytes a b (of_lines {lines} is judged) (of_row {row} broken) =
+    let never = one_reading bytes (Ok lines) (Err row) is broken in absurd (cc never)
+judges_one file names work bytes a b (of_row {row} broken) (of_lines {lines} is judged) =
+    let never = one_reading bytes (Ok lines) (Err row) is broken in absurd (cc never)
+judges_one file names work bytes a b (of_row {row} broken) (of_row {row = row'} broken') =
+    let read = one_reading bytes (Err row) (Err row') broken broken' in
+    let same : row ≡ row' = cc read in
+    ap (λ r. Refused 4 names (input_line file 9 r)) same
+
+-- what comes next, after what the run would read
+abbrev Next : Audited → Files → List Name → ToDo → Case Verdict → Type 0
+Next audited files names work case = Traced names audited.trace work (bytes_of files audited.trace) case
+
+abbrev Comes : Audited → ToDo → List Name → List ℕ → Case Verdict → Type 0
+Comes audited work names text case = Judges audited.trace names work text case
+
+next_some : (audited : Audited) (files : Files) (names : List Name) (work : ToDo) → (case : Case Verdict) × Next audited files names work case
+next_some audited files names work =
+    file_some audited.trace (Comes audited work) (λ ns text. judges_some audited.trace ns work text) names (bytes_of files audited.trace)
+
+next_one : (audited : Audited) (files : Files) (names : List Name) (work : ToDo) (a b : Case Verdict) → Next audited files names work a
+    → Next audited files names work b → a ≡ b
+next_one audited files names work a b is other =
+    file_one audited.trace (Comes audited work) (λ ns text x y. judges_one audited.trace ns work text x y) names (bytes_of files audited.trace)
+    a b is other
+
+pub supplies_once : SuppliesOne asking
+supplies_once = further_once Gprs (λ (a : Audited). a.run) audited_by Next next_some next_one
+
+pub audit_case : HasOneCase asking
+audit_case = has_one_case asking supplies_once
+
+module _ (audited : Audited) (files : Files) where
+  next_shifts : (first : Name) (names : List Name) (work : ToDo) (case : Case Verdict) → Next audited files (first ∷ names) work case
+      → (found : Case Verdict) × Next audited files names work found × (case ≡ after_file first found)
+  next_shifts first names work case is =
+      file_shifts audited.trace (Comes audited work) (λ f ns text c. judges_shift audited.trace f ns work text c) first names
+      (bytes_of files audited.trace) case is
 
   -- what was read before the trace, and the trace, were read
-  keeps_rows : (names : List Name) (work : ToDo) (rows : Result (List TraceLine) ℕ) (name : Name)
-      → Contains (names ++ audited.trace ∷ []) name
-      → Contains (names_read ((by_trace_rows judge names audited.trace work rows))) name
-  keeps_rows names work (Ok lines) name is = is
-  keeps_rows names work (Err row) name is = is
+  next_reads : (names : List Name) (work : ToDo) (case : Case Verdict) → Next audited files names work case → (name : Name)
+      → Contains (names ++ audited.trace ∷ []) name → Contains (names_read case) name
+  next_reads names work case is name has =
+      file_reads audited.trace (Comes audited work) (λ ns text c. judges_read audited.trace ns work text c) names (bytes_of files audited.trace)
+      case is name has
 
-  keeps_long : (names : List Name) (work : ToDo) (long : Bool) (rows : Result (List TraceLine) ℕ) (name : Name)
-      → Contains (names ++ audited.trace ∷ []) name
-      → Contains (names_read ((if long then Refused 4 (names ++ audited.trace ∷ [])
-      (input_line audited.trace 6 0) else by_trace_rows judge names audited.trace work rows))) name
-  keeps_long names work true rows name is = is
-  keeps_long names work false rows name is = keeps_rows names work rows name is
+  case_after : (names : List Name) (work : ToDo) (case : Case Verdict) → IsCaseOf run.asking audited.run files (Go names work)
+      → Next audited files names work case → IsCaseOf asking audited files case
+  case_after names work case is next =
+      further Gprs (λ (a : Audited). a.run) audited_by Next audited files next_shifts (Go names work) case is next
 
-  keeps_bytes : (names : List Name) (work : ToDo) (bytes : Option (List ℕ)) (name : Name) → Contains (names ++ audited.trace ∷ []) name
-      → Contains (names_read ((by_trace judge names audited.trace work bytes))) name
-  keeps_bytes names work None name is = is
-  keeps_bytes names work (Some text) name is = keeps_long names work (nat_lt MOST_FILE_BYTES (length text)) (judge.lines_of text) name is
+  -- what the run is refused for, the audit is
+  run_refused : (refusal : Refusal) → RefusesCase (IsCaseOf run.asking audited.run files) refusal
+      → RefusesCase (IsCaseOf asking audited files) refusal
+  run_refused refusal is =
+      refuses_further Gprs (λ (a : Audited). a.run) audited_by Next audited files next_shifts (next_some audited files)
+      (λ names work case next name has. next_reads names work case next name (Contains-append_left names (audited.trace ∷ []) name has))
+      refusal is
 
-  module _ (files : Files) where
-    abbrev after : List Name → ToDo → Case Tried
-    after names work = (by_trace judge names audited.trace work (bytes_of files audited.trace))
-
-    goes_on : (program : Program)
-        → after_file audited.run.program (supplied judge audited program files)
-        ≡ further_case after (after_file audited.run.program (supplied_by audited.run program files))
-    goes_on program = go (supplied_by audited.run program files)
-      where
-        go : (given : Case ToDo)
-            → after_file audited.run.program (then_load given
-            (λ names work. by_trace judge names audited.trace work (bytes_of files audited.trace)))
-            ≡ further_case after (after_file audited.run.program given)
-        go (Go names work) = below_bytes audited.run.program names work (bytes_of files audited.trace)
-        go (Refused status names line) = refl
-
-    to_audit : (case : Case Tried)
-        → IsCaseOf (further_asking run.asking (λ (a : Audited). a.run) audited_by (supplied judge)) audited files case
-        → IsCaseOf (asking judge) audited files case
-    to_audit case (no_program absent) = no_program absent
-    to_audit case (of_text meaning there means) = of_text meaning there means
-
-    pub case_after : (names : List Name) (work : ToDo) → IsCaseOf run.asking audited.run files (Go names work)
-        → IsCaseOf (asking judge) audited files (after names work)
-    case_after names work is =
-        to_audit (after names work) (further run.asking (λ (a : Audited). a.run) audited_by
-        (supplied judge) audited files after goes_on (Go names work) is)
-
-    reads_on : (names : List Name) (work : ToDo) (name : Name) → Contains names name → Contains (names_read (after names work)) name
-    reads_on names work name is =
-        keeps_bytes names work (bytes_of files audited.trace) name (Contains-append_left names (audited.trace ∷ []) name is)
-
-    -- what the run is refused for, the audit is
-    run_refused : (refusal : Refusal) → RefusesCase (IsCaseOf run.asking audited.run files) refusal
-        → RefusesCase (IsCaseOf (asking judge) audited files) refusal
-    run_refused refusal is =
-        refuses_map (IsCaseOf (further_asking run.asking (λ (a : Audited). a.run) audited_by (supplied judge)) audited files)
-        (IsCaseOf (asking judge) audited files) to_audit refusal
-        (refuses_further run.asking (λ (a : Audited). a.run) audited_by (supplied judge) audited files after goes_on reads_on refusal is)
-
+  module _ (judge : Judge) where
     pub lines_case : (names : List Name) (work : ToDo) (lines : List TraceLine) → IsCaseOf run.asking audited.run files (Go names work)
         → AnswersLines judge names audited.trace work (bytes_of files audited.trace) (Ok lines)
-        → IsCaseOf (asking judge) audited files (Go (names ++ audited.trace ∷ []) (tried_with judge work lines))
-    lines_case names work lines is answers =
-        subst (λ given. IsCaseOf (asking judge) audited files (given)) answers (case_after names work is)
+        → IsCaseOf asking audited files (Go (names ++ audited.trace ∷ []) (tried_with judge work lines))
+    lines_case names work lines is answers = case_after names work (Go (names ++ audited.trace ∷ []) (tried_with judge work lines)) is answers
 
     trace_refused : (names : List Name) (work : ToDo) (refusal : Refusal) → IsCaseOf run.asking audited.run files (Go names work)
         → AnswersLines judge names audited.trace work (bytes_of files audited.trace) (Err refusal)
-        → RefusesCase (IsCaseOf (asking judge) audited files) refusal
+        → RefusesCase (IsCaseOf asking audited files) refusal
     trace_refused names work refused.Usage is answers = absurd answers
     trace_refused names work (refused.BadProgram line) is answers = absurd answers
     trace_refused names work (refused.BadInput line) is answers = (
       names ++ audited.trace ∷ [],
-      subst (λ given. IsCaseOf (asking judge) audited files (given)) answers
-          (case_after names work is),
+      case_after names work (Refused 4 (names ++ audited.trace ∷ []) line) is answers,
     )
-    trace_refused names work (refused.ReadFault name) is answers = (
-      after names work,
-      case_after names work is,
-      subst (λ told. Contains (names_read (after names work)) told) answers
-          (keeps_bytes names work (bytes_of files audited.trace) audited.trace
-          (Contains-append_right names (audited.trace ∷ []) audited.trace (0, omega arith, refl))),
-    )
+    trace_refused names work (refused.ReadFault name) is answers =
+        let found = next_some audited files names work in (
+          found.0,
+          case_after names work found.0 is found.1,
+          subst (λ told. Contains (names_read found.0) told) answers
+              (next_reads names work found.0 found.1 audited.trace
+              (Contains-append_right names (audited.trace ∷ []) audited.trace (0, omega arith, refl))),
+        )
     trace_refused names work refused.OutOfMemory is answers = tt
 
-  -- the same where the files are told
-  pub run_refuses : (files : Option Files) (refusal : Refusal)
-      → IfSome files (λ told. RefusesCase (IsCaseOf run.asking audited.run told) refusal)
-      → IfSome files (λ told. RefusesCase (IsCaseOf (asking judge) audited told) refusal)
-  run_refuses None refusal is = tt
-  run_refuses (Some files) refusal is = run_refused files refusal is
+-- the same where the files are told
+pub run_refuses : (audited : Audited) (files : Option Files) (refusal : Refusal)
+    → IfSome files (λ told. RefusesCase (IsCaseOf run.asking audited.run told) refusal)
+    → IfSome files (λ told. RefusesCase (IsCaseOf asking audited told) refusal)
+run_refuses audited None refusal is = tt
+run_refuses audited (Some files) refusal is = run_refused audited files refusal is
 
+module _ (judge : Judge) (audited : Audited) where
   pub lines_judged : (files known : Option Files) (names : List Name) (work : ToDo) (lines : List TraceLine) → known ≡ files
       → IfSome files (λ told. IsCaseOf run.asking audited.run told (Go names work))
       → IfSome known (λ told. AnswersLines judge names audited.trace work (bytes_of told audited.trace) (Ok lines))
-      → IfSome files (λ told. IsCaseOf (asking judge) audited told (Go (names ++ audited.trace ∷ []) (tried_with judge work lines)))
+      → IfSome files (λ told. IsCaseOf asking audited told (Go (names ++ audited.trace ∷ []) (tried_with judge work lines)))
   lines_judged None known names work lines same is answers = tt
   lines_judged (Some files) known names work lines same is answers =
-      lines_case files names work lines is (subst
+      lines_case audited files judge names work lines is (subst
       (λ k. IfSome k (λ told. AnswersLines judge names audited.trace work (bytes_of told audited.trace) (Ok lines))) same answers)
 
   pub trace_refuses : (files known : Option Files) (names : List Name) (work : ToDo) (refusal : Refusal) → known ≡ files
       → IfSome files (λ told. IsCaseOf run.asking audited.run told (Go names work))
       → IfSome known (λ told. AnswersLines judge names audited.trace work (bytes_of told audited.trace) (Err refusal))
-      → IfSome files (λ told. RefusesCase (IsCaseOf (asking judge) audited told) refusal)
+      → IfSome files (λ told. RefusesCase (IsCaseOf asking audited told) refusal)
   trace_refuses None known names work refusal same is answers = tt
   trace_refuses (Some files) known names work refusal same is answers =
-      trace_refused files names work refusal is
+      trace_refused audited files judge names work refusal is
       (subst (λ k. IfSome k (λ told. AnswersLines judge names audited.trace work (bytes_of told audited.trace) (Err refusal))) same
       answers)
 
@@ -181,10 +192,9 @@ module _ (audited : Audited) (before now : List Name) where
   trace_reads T refused.OutOfMemory is = tt
 
 -- words for which nothing is read are those of no command
-pub nothing_read : {P : Type 0} (judge : Judge) (words : List (List ℕ)) → (audited_by words ≡ None → P)
-    → ReadsNothing (commands judge) (audited_by words) → P
-nothing_read {P} judge words to = go (audited_by words) to
+pub nothing_read : {P : Type 0} (words : List (List ℕ)) → (audited_by words ≡ None → P) → ReadsNothing commands (audited_by words) → P
+nothing_read {P} words to = go (audited_by words) to
   where
-    go : (asked : Option Audited) → (asked ≡ None → P) → ReadsNothing (commands judge) asked → P
+    go : (asked : Option Audited) → (asked ≡ None → P) → ReadsNothing commands asked → P
     go None holds nothing = holds refl
     go (Some audited) holds makes = cc makes

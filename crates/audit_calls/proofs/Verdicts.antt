@@ -26,9 +26,7 @@ use Rattle.gp_audit.proofs.Orders.{order-is}
 use Rattle.call_cases.specs.meaning.Work.{ToDo}
 use Rattle.call_cases.specs.meaning.Journals.{run_of, dependence_for}
 use Rattle.call_cases.specs.Answers.{PutFor, unwritten}
-use Rattle.audit_calls.specs.meaning.Laws.{OneJudge}
-use Rattle.audit_calls.specs.meaning.Tried.{Judge, tried_with}
-use Rattle.audit_calls.proofs.Readings.{one_reading}
+use Rattle.audit_calls.specs.inner.Trials.{Judge, tried_with}
 
 -- the plain run has few steps
 pub few_steps : (program : Program) (inputs : Inputs) (limits : Limits) (steps : List Step)
@@ -40,16 +38,22 @@ few_steps program inputs limits steps are few =
     let same = ap length are ∙ length-map (order program inputs limits) shown in
     omega (arith, count, same)
 
--- a verdict by the steps of the plain run is the judge's
+-- a verdict by the steps of the plain run is one by its subthreads
+pub verdict_is : (work : ToDo) (lines : List TraceLine) (steps : List Step) (verdict : Verdict)
+    → steps ≡ map shown (order work.program work.inputs work.limits)
+    → IsVerdict (dependence_by steps) work.faults lines verdict → IsVerdict (dependence_for work) work.faults lines verdict
+unfolding run_of dependence_for
+verdict_is work lines steps verdict are is =
+    subst (λ (dependence : Dependence). IsVerdict dependence work.faults lines verdict) (ap dependence_by are
+    ∙ (ap (λ run. dependence_by (map shown run)) (sym (plain-is work.program work.inputs work.limits)) ∙ order-is (run_of work))) is
+
+-- and so it is the judge's
 pub verdict_judged : (judge : Judge) (work : ToDo) (lines : List TraceLine) (steps : List Step) (verdict : Verdict)
     → steps ≡ map shown (order work.program work.inputs work.limits)
-    → IsVerdict (dependence_by steps) work.faults lines verdict → verdict ≡ (tried_with judge work lines).verdict
-unfolding run_of dependence_for
+    → IsVerdict (dependence_by steps) work.faults lines verdict → verdict ≡ tried_with judge work lines
 verdict_judged judge work lines steps verdict are is =
     verdict_once (dependence_for work) work.faults lines verdict (judge.verdict_of (dependence_for work) work.faults lines)
-    (subst (λ (dependence : Dependence). IsVerdict dependence work.faults lines verdict) (ap dependence_by are
-    ∙ (ap (λ run. dependence_by (map shown run)) (sym (plain-is work.program work.inputs work.limits)) ∙ order-is (run_of work))) is)
-    (judge.judges (dependence_for work) work.faults lines)
+    (verdict_is work lines steps verdict are is) (judge.judges (dependence_for work) work.faults lines)
 
 -- memory was out before anything was written
 pub stopped_memory : (text : List ℕ) (due : ℕ) (written : Option (List ℕ)) (faults : ℕ) (result : Result ℕ SinkFault) (fault : SinkFault)
@@ -64,13 +68,3 @@ stopped_memory text due written faults result fault is out =
       cause = λ failed. let never : OutOfMemory ≡ Failed = sym out
           ∙ failed in cc never;
     })
-
--- no two judges differ
-pub one_judge : OneJudge
-one_judge judge other = (
-  λ bytes. one_reading bytes (judge.lines_of bytes) (other.lines_of bytes) (judge.reads bytes) (other.reads bytes),
-  λ dependence faults lines.
-      verdict_once dependence faults lines (judge.verdict_of dependence faults lines) (other.verdict_of dependence faults lines)
-      (judge.judges dependence faults lines)
-      (other.judges dependence faults lines),
-)

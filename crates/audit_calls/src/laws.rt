@@ -1,16 +1,12 @@
 // Laws of audits, each on a function with an empty body.
-ghost use Rattle.audit_calls.specs.meaning.Laws.{OneJudge, TraceLaw};
-ghost use Rattle.audit_calls.specs.meaning.Tried.{Judge};
+ghost use Rattle.call_cases.specs.meaning.Laws.{HasOneCase};
+ghost use Rattle.audit_calls.specs.meaning.AuditCommands.{asking};
+ghost use Rattle.audit_calls.specs.meaning.Laws.{TraceLaw};
 ghost use Rattle.audit_calls.specs.TraceLaws.{TextLaw, LinesLaw, OrderLaw, WholeRunLaw};
 
-/// A law: no two judges differ, so that what is promised for each of them is promised once.
-pub fn one_judge()
-    ensures { OneJudge }
-{}
-
-/// A law: there is a judge, so that what is promised for each of them is promised.
-pub fn some_judge()
-    ensures { Judge }
+/// A law: each call of `audit_run` has one case.
+pub fn audit_case()
+    ensures { HasOneCase asking }
 {}
 
 /// A law: the trace of each run that `gprs_run` or `gprs_run_pipe` made to its end is judged lawful.

@@ -9,9 +9,8 @@ ghost use Rattle.command_line.specs.meaning.AuditWords.{audited_by};
 ghost use Rattle.call_cases.specs.meaning.Work.{ToDo};
 ghost use Rattle.call_cases.specs.meaning.Case.{IsCase, IsCaseOf};
 ghost use Rattle.call_cases.specs.Refusals.{AnswersCase, AnswersNoCommand, ReadsAmong, TouchesShelf};
-ghost use Rattle.audit_calls.specs.meaning.Tried.{Judge};
 ghost use Rattle.audit_calls.specs.meaning.AuditCommands.{MayRead, asking};
-ghost use Rattle.audit_calls.specs.inner.Trials.{AnswersLines, IsShort, audited_in, case_of};
+ghost use Rattle.audit_calls.specs.inner.Trials.{AnswersLines, IsShort, Judge, audited_in, case_of};
 
 use crate::trial::Trial;
 use call_cases::{Reading, Refusal, read_asked, read_file, refused_input};
@@ -56,7 +55,7 @@ fn trace_lines<H: Shelf>(
 fn read_audited<H: Shelf>(alloc: Global, audited: Audited, shelf: &mut H) -> Result<Trial, Refusal>
     requires { IsWithinLimits audited.run }
     ensures shelf { TouchesShelf MayRead (Some audited) (H.failed shelf.old) (H.failed shelf.new) result }
-    ensures case { (judge : Judge) → IfSome (H.files shelf.old) (λ files. AnswersCase (case_of judge) (IsCaseOf (asking judge) audited files) result) }
+    ensures case { (judge : Judge) → IfSome (H.files shelf.old) (λ files. AnswersCase (case_of judge) (IsCaseOf asking audited files) result) }
     ensures short { IfOk result IsShort }
     ensures audited { IfOk result (λ trial. audited_in trial ≡ audited) }
 {
@@ -85,7 +84,7 @@ pub fn read_trial<H: Shelf>(
     ensures no_command { audited_by (texts words.now) ≡ None → AnswersNoCommand result }
     ensures unread { audited_by (texts words.now) ≡ None → shelf.new ≡ shelf.old }
     ensures shelf { TouchesShelf MayRead (audited_by (texts words.now)) (H.failed shelf.old) (H.failed shelf.new) result }
-    ensures case { (judge : Judge) → IfSome (H.files shelf.old) (λ files. AnswersCase (case_of judge) (IsCase (asking judge) (texts words.now) files) result) }
+    ensures case { (judge : Judge) → IfSome (H.files shelf.old) (λ files. AnswersCase (case_of judge) (IsCase asking (texts words.now) files) result) }
     ensures short { IfOk result IsShort }
     ensures audited { IfOk result (λ trial. audited_by (texts words.now) ≡ Some (audited_in trial)) }
 {

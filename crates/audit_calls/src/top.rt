@@ -4,7 +4,6 @@ ghost use Rattle.command_line.specs.meaning.Words.{texts};
 ghost use Rattle.command_line.specs.meaning.AuditWords.{audited_by};
 ghost use Rattle.call_cases.specs.meaning.Answers.{change_of};
 ghost use Rattle.call_cases.specs.meaning.Headline.{Headline};
-ghost use Rattle.audit_calls.specs.meaning.Tried.{Judge};
 ghost use Rattle.audit_calls.specs.meaning.AuditCommands.{commands};
 
 use crate::reading::read_trial;
@@ -30,7 +29,7 @@ pub fn audit_run<R: AllocGlobal, H: Shelf, O: Sink, E: Sink, G: Gate>(
     err: &mut E,
     _gate: &G,
 ) -> Outcome
-    ensures headline { (judge : Judge) → Headline (commands judge) (record {
+    ensures headline { Headline commands (record {
       words = texts words.now;
       files = H.files shelf.old;
       failed = H.failed shelf.old;

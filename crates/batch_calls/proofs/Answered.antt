@@ -23,6 +23,7 @@ use Rattle.call_cases.specs.Decided.{case_of, program_in, files_read, work_of}
 use Rattle.call_cases.specs.Refusals.{AnswersCase, TouchesShelf, RefusalEnds}
 use Rattle.call_cases.proofs.Answering.{answers_map, asked_case, same_case, usage_case}
 use Rattle.call_cases.proofs.Headlines.{run_headline, log_headline, refused_headline}
+use Rattle.call_cases.proofs.OneCase.{run_case}
 use Rattle.call_cases.proofs.RunSound as run
 use Rattle.call_cases.specs.Commands.{AreSound}
 use Rattle.batch_calls.specs.meaning.LogCommands.{log_for, TakesLog}
@@ -94,7 +95,7 @@ abbrev logged_by : (List (List ℕ) → Option Asked) → Commands Asked ToDo
 logged_by reading = record (commands_by reading) { log = Logged (record { whole = log_for; taken = TakesLog }) }
 
 sound_by : (reading : List (List ℕ) → Option Asked) → AreSound (commands_by reading)
-sound_by reading = run.sound_for gprs.commands (asking_by reading) run.commands_sound
+sound_by reading = run.sound_for gprs.commands (asking_by reading) (run_case reading) run.commands_sound
 
 logged_sound : (reading : List (List ℕ) → Option Asked) → AreSound (logged_by reading)
 logged_sound reading = run.sound_with (commands_by reading) (Logged (record { whole = log_for; taken = TakesLog })) (sound_by reading)

@@ -48,4 +48,4 @@ module _ {A T : Type 0} (asking : Asking A T) (words : List (List ℕ)) where
 pub same_case : {A T : Type 0} (asking : Asking A T) (reading : List (List ℕ) → Option A) (asked : A) (files : Files) (case : Case T)
     → IsCaseOf asking asked files case → IsCaseOf (record asking { reading = reading }) asked files case
 same_case asking reading asked files case (no_program absent) = no_program absent
-same_case asking reading asked files case (of_text meaning there means) = of_text meaning there means
+same_case asking reading asked files case (of_text meaning there means is) = of_text meaning there means is

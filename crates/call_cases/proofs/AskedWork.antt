@@ -1,6 +1,6 @@
 -- What there is to be done for what is asked: the command that the words name, under limits in their range, with few faults, each with
 -- numbers in their ranges.
-use Rattle.std.proofs.Common.{◌≡◌, ◌≤◌, ◌&&◌, ℕ, Bool, true, false, List, [], ◌∷◌, ◌++◌, length, nat_lt, nat_le, if◌then◌else◌, refl, arith}
+use Rattle.std.proofs.Common.{◌≡◌, ◌≤◌, ◌&&◌, ℕ, Bool, true, false, List, [], ◌∷◌, ◌++◌, length, nat_lt, nat_le, if◌then◌else◌, refl, sym, subst, arith}
 use Rattle.std.specs.Prelude.{IfSome, IfOk, ⊤, codes, option_and_then}
 use Rattle.std.specs.Str.Parse.{digits_value}
 use Rattle.std.specs.declared.option.Option.{Option}
@@ -30,8 +30,8 @@ use Rattle.command_line.specs.declared.asked.Command.{Command}
 use Rattle.command_line.specs.declared.asked.CrewKind.{CrewKind}
 use Rattle.command_line.specs.declared.asked.Verb.{Verb}
 use Rattle.call_cases.specs.meaning.Work.{Files, ToDo, work_for, Case, Refused, Go, after_file}
-use Rattle.call_cases.specs.meaning.InputFiles.{by_rows, by_file, load_faults, supplied_for, then_load, with_faults, supplied_by}
-use Rattle.call_cases.specs.meaning.Case.{IsCaseOf, no_program, of_text, program_case, meant_case}
+use Rattle.call_cases.specs.meaning.InputFiles.{by_rows, by_file, load_faults, supplied_for, then_load, with_faults}
+use Rattle.call_cases.specs.meaning.Case.{IsCaseOf, no_program, of_text, IsCheckedCase, IsMeantCase}
 use Rattle.call_cases.specs.meaning.Lines.{input_line}
 use Rattle.call_cases.specs.meaning.RunCommands.{asking_among}
 use Rattle.call_cases.proofs.FaultRows.{IsNarrow, AreNarrow, narrow_file}
@@ -148,20 +148,22 @@ module _ (asked : Asked) (files : Files) where
   supplied_goes (Refused status names line) is = tt
 
   module _ (waits : Bool) where
-    checked_goes : (program : Program) (fault : Option (CheckKind × ℕ))
-        → GoesAsked asked (program_case (asking_among waits) files asked program fault)
-    checked_goes program (Some fault) = tt
-    checked_goes program None =
-        supplied_goes (supplied_by asked program files) (inputs_supply program (supplied_for asked.command program.heads files))
+    checked_goes : (program : Program) (fault : Option (CheckKind × ℕ)) (case : Case ToDo)
+        → IsCheckedCase (asking_among waits) files asked program fault case → GoesAsked asked case
+    checked_goes program (Some fault) case is = subst (GoesAsked asked) (sym is) tt
+    checked_goes program None case (given, supplies, is) =
+        subst (GoesAsked asked) (sym is)
+        (supplied_goes given
+        (subst (SuppliesAsked asked) (sym supplies) (inputs_supply program (supplied_for asked.command program.heads files))))
 
-    meant_goes : (meaning : Meaning) → GoesAsked asked (meant_case (asking_among waits) files asked meaning)
-    meant_goes (LexFails fault) = tt
-    meant_goes (ParseFails fault) = tt
-    meant_goes (Stands program) = checked_goes program (check_fault program)
+    meant_goes : (meaning : Meaning) (case : Case ToDo) → IsMeantCase (asking_among waits) files asked meaning case → GoesAsked asked case
+    meant_goes (LexFails fault) case is = subst (GoesAsked asked) (sym is) tt
+    meant_goes (ParseFails fault) case is = subst (GoesAsked asked) (sym is) tt
+    meant_goes (Stands program) case is = checked_goes program (check_fault program) case is
 
     case_goes : (case : Case ToDo) → IsCaseOf (asking_among waits) asked files case → GoesAsked asked case
     case_goes case (no_program absent) = tt
-    case_goes case (of_text meaning there means) = meant_goes meaning
+    case_goes case (of_text meaning there means is) = meant_goes meaning case is
 
     pub asked_work : (names : List Name) (work : ToDo) → IsCaseOf (asking_among waits) asked files (Go names work) → IsAskedWork asked work
     asked_work names work is = case_goes (Go names work) is

@@ -3,7 +3,7 @@
 -- A call refuses, or begins what is asked. What begins ends in one of a few ways, each with its status: RunEndsOf where no
 -- log is kept, LogEndsOf where one is. Each fact of the promise goes by these ways; both come to Ended, from which it
 -- follows once. A refusal goes by its kinds, and writes the same whether a log would be kept or not.
-use Rattle.std.proofs.Common.{◌≡◌, ◌⊎◌, ℕ, true, false, List, [], ◌∷◌, take, IfSome, refl, sym, subst, inl, inr, arith, append-nil}
+use Rattle.std.proofs.Common.{◌≡◌, ◌⊎◌, ℕ, true, false, List, [], ◌∷◌, IfSome, refl, sym, subst, inl, inr, arith, append-nil}
 use Rattle.std.specs.List.{Contains}
 use Rattle.std.specs.declared.option.Option.{Option}
 use Rattle.std.specs.declared.option.Option.TheVariants.{None, Some}
@@ -22,30 +22,24 @@ use Rattle.call_cases.specs.declared.reading.Refusal.TheVariants.{Usage as Refus
 use Rattle.call_cases.specs.meaning.Work.{Files, Case, Refused, Go}
 use Rattle.call_cases.specs.meaning.Commands.{Commands, Log, MayLog, Unlogged, Logged}
 use Rattle.call_cases.specs.Commands.{AreSound, IsApart}
+use Rattle.call_cases.specs.meaning.Laws.{HasOneCase}
 use Rattle.call_cases.specs.meaning.Case.{IsCase, no_command, ForCase, ForRun, names_read, status_of, text_of, due_of}
 use Rattle.call_cases.specs.declared.lines.Tool.{Tool}
 use Rattle.call_cases.specs.meaning.Lines.{tool_line, usage_line, read_fault_line, out_of_memory_line, write_fault_line}
 use Rattle.call_cases.specs.Refusals.{RefusesCase, RefusesWords, RefusesShelf, RefusalEndsOf, refusal_line}
-use Rattle.call_cases.specs.meaning.Answers.{Change, TakesAll, TakesPart, IsUntouched, Fails, Grew, IsEmpty, IsStopLine, TakesStop, Yields, due_status, no_memory, read_fault, write_fault}
-use Rattle.call_cases.specs.Answers.{unwritten, LineEnds, whole, line_failed, line_no_memory, RunEndsOf, finished, run_no_memory, output_failed, error_failed, LogEndsOf, log_finished, log_no_memory, log_write_failed, log_unbegun, PutFor, StopsBy}
-use Rattle.call_cases.specs.meaning.Headline.{Call, IsQuiet, TellsWrite, TellsStop, TellsCase, IsRefusal, HasCaseLine, error_for, RunsNothing, TellsReadFault, TellsWriteFault, IsStop, IsDue, TakesStopLines, ReadsNothing, MeetsCase, Headline}
+use Rattle.call_cases.specs.meaning.Answers.{Change, TakesAll, TakesPart, IsUntouched, Fails, Grew, IsEmpty, IsStopLine, Yields, due_status, no_memory, read_fault, write_fault}
+use Rattle.call_cases.specs.Answers.{unwritten, TakesOneOf, LineEnds, whole, line_failed, line_no_memory, RunEndsOf, finished, run_no_memory, output_failed, error_failed, LogEndsOf, log_finished, log_no_memory, log_write_failed, log_unbegun, PutFor, StopsBy}
+use Rattle.call_cases.specs.meaning.Headline.{Call, IsQuiet, TellsWrite, TellsStop, TellsCase, IsRefusal, HasCaseLine, error_for, RunsNothing, TellsReadFault, TellsWriteFault, IsStop, ReadsNothing, MeetsCase, Headline}
 use Rattle.call_cases.proofs.OneCase.{for_known, for_each, for_map, none_some}
 
--- a prefix of the line that tells the stop, after nothing else
-stop_taken : (tool : Tool) (begun : List ℕ) (err : Change) (stop : List ℕ) → IsStopLine tool stop → TakesPart err stop
-    → TakesStop tool begun err
-stop_taken tool begun err stop is_stop (n, taken) = record { first = 0; stop = stop; is_stop = is_stop; second = n; taken = taken }
+-- a prefix of the line that tells the stop
+stop_taken : (tool : Tool) (trace : List ℕ) (err : Change) (stop : List ℕ) → IsStopLine tool stop → TakesPart err stop
+    → TakesOneOf tool trace err
+stop_taken tool trace err stop is_stop part = (stop, inr is_stop, part)
 
--- a prefix of what comes first, and no line
-begun_taken : (tool : Tool) (begun : List ℕ) (err : Change) → TakesPart err begun → TakesStop tool begun err
-begun_taken tool begun err (n, taken) =
-    record {
-      first = n;
-      stop = (tool_line tool out_of_memory_line);
-      is_stop = inl refl;
-      second = 0;
-      taken = subst (TakesAll err) (sym (append-nil (take n begun))) taken;
-    }
+-- a prefix of the trace
+trace_taken : (tool : Tool) (trace : List ℕ) (err : Change) → TakesPart err trace → TakesOneOf tool trace err
+trace_taken tool trace err part = (trace, inl refl, part)
 
 -- nothing is taken
 pub none_taken : (known : Option (List ℕ)) → Appends known known []
@@ -77,9 +71,9 @@ module _ (tool : Tool) (text trace : List ℕ) (due : ℕ) (out err : Change) wh
   pub run_of_whole : (status : ℕ) → TakesAll out text → LineEnds due trace err status → RunEndsOf tool text trace due out err status
   run_of_whole status taken (whole all) = finished taken all
   run_of_whole status taken (line_failed part failed) =
-      error_failed (prefix_whole out.written out.written' text taken) failed (begun_taken tool trace err part)
+      error_failed (prefix_whole out.written out.written' text taken) failed (trace_taken tool trace err part)
   run_of_whole status taken (line_no_memory part) =
-      run_no_memory (prefix_whole out.written out.written' text taken) (begun_taken tool trace err part)
+      run_no_memory (prefix_whole out.written out.written' text taken) (trace_taken tool trace err part)
 
 -- a text that is all there is to write, and the line that tells where it was not written
 module _ (tool : Tool) (text : List ℕ) (due : ℕ) (out err : Change) where
@@ -99,15 +93,13 @@ module _ (tool : Tool) (text : List ℕ) (due : ℕ) (out err : Change) where
       let here = subst (PutFor text due out) failed is in
       run_of_memory tool text [] due out err status here.part ends
 
--- a prefix of a line that is due, or of the line that tells the stop
-due_lines : (tool : Tool) (is_due : List ℕ → Type 0) (err : Change) (due : List ℕ) → is_due due → TakesPart err due
-    → TakesStopLines tool is_due err
-due_lines tool is_due err due for_case part = (due, for_case, begun_taken tool due err part)
+-- what is due for a case, or the line of a file that it reads, and a prefix of one such line or of that of the stop
+abbrev IsDue : {T : Type 0} → Tool → (grew : Type 0) → Case T → (error : List ℕ) → List ℕ → Type 0
+IsDue tool grew case error due =
+    (due ≡ due_of tool case error) ⊎ grew × (name : Name) × Contains (names_read case) name × (due ≡ tool_line tool (read_fault_line name))
 
-stop_lines : (tool : Tool) (is_due : List ℕ → Type 0) (err : Change) (due stop : List ℕ) → is_due due → IsStopLine tool stop
-    → TakesPart err stop
-    → TakesStopLines tool is_due err
-stop_lines tool is_due err due stop for_case for_stop part = (due, for_case, stop_taken tool due err stop for_stop part)
+abbrev TakesLine : Tool → (is_due : List ℕ → Type 0) → Change → Type 0
+TakesLine tool is_due err = (line : List ℕ) × (IsStopLine tool line ⊎ is_due line) × TakesPart err line
 
 -- the case that an answer tells, and its status
 told_case : {A T : Type 0} (commands : Commands A T) (words : List (List ℕ)) (files : Option Files) (known : Case T)
@@ -155,14 +147,17 @@ module _ (tool : Tool) (text trace : List ℕ) (due : ℕ) (out err : Change) wh
   run_not_refused status is_apart (output_failed part fails told) is = grind (arith, is)
   run_not_refused status is_apart (error_failed part fails stop) is = grind (arith, is)
 
+  one_line : (is_due : List ℕ → Type 0) → is_due trace → TakesOneOf tool trace err → TakesLine tool is_due err
+  one_line is_due for_trace (line, inl is, part) = (line, inr (subst is_due (sym is) for_trace), part)
+  one_line is_due for_trace (line, inr stop, part) = (line, inl stop, part)
+
   run_stopped : (is_due : List ℕ → Type 0) → is_due trace → (status : ℕ) → IsApart due
-      → RunEndsOf tool text trace due out err status → IsStop status → TakesStopLines tool is_due err
+      → RunEndsOf tool text trace due out err status → IsStop status → TakesLine tool is_due err
   run_stopped is_due for_trace status is_apart (finished all traced) is = absurd (grind (arith, is_apart, is))
-  run_stopped is_due for_trace status is_apart (run_no_memory part stop) is = (trace, for_trace, stop)
+  run_stopped is_due for_trace status is_apart (run_no_memory part stop) is = one_line is_due for_trace stop
   run_stopped is_due for_trace status is_apart (output_failed part fails told) is =
-      stop_lines tool is_due err trace (tool_line tool write_fault_line) for_trace (inr refl)
-      (prefix_whole err.written err.written' (tool_line tool write_fault_line) told)
-  run_stopped is_due for_trace status is_apart (error_failed part fails stop) is = (trace, for_trace, stop)
+      (tool_line tool write_fault_line, inl (inr refl), prefix_whole err.written err.written' (tool_line tool write_fault_line) told)
+  run_stopped is_due for_trace status is_apart (error_failed part fails stop) is = one_line is_due for_trace stop
 
 -- what was begun to be done, and of which a log is kept
 module _ (tool : Tool) (text rows : List ℕ) (taken : Change → Type 0) (due : ℕ) (out err : Change) (journal : Journal) where
@@ -222,15 +217,14 @@ module _ (tool : Tool) (text rows : List ℕ) (taken : Change → Type 0) (due :
   line_part status (line_no_memory part) = part
 
   -- the log, or the line that tells that memory ran out before the run
-  log_stopped : (is_due : List ℕ → Type 0) (line : List ℕ) → is_due line → (status : ℕ) → IsApart due
+  log_stopped : (is_due : List ℕ → Type 0) (status : ℕ) → IsApart due
       → LogEndsOf tool text rows taken due out err journal status → IsStop status
-      → (IsUntouched out × IsEmpty journal × TakesStopLines tool is_due err) ⊎ taken err
-  log_stopped is_due line for_case status apart (log_finished all logged held) is = absurd (grind (arith, apart, is))
-  log_stopped is_due line for_case status apart (log_no_memory part held) is = inr held
-  log_stopped is_due line for_case status apart (log_write_failed part fails held) is = inr held
-  log_stopped is_due line for_case status apart (log_unbegun untouched empty told) is =
-      let stop = stop_lines tool is_due err line (tool_line tool out_of_memory_line) for_case (inl refl) (line_part status told) in
-      inl (untouched, empty, stop)
+      → (IsUntouched out × IsEmpty journal × TakesLine tool is_due err) ⊎ taken err
+  log_stopped is_due status apart (log_finished all logged held) is = absurd (grind (arith, apart, is))
+  log_stopped is_due status apart (log_no_memory part held) is = inr held
+  log_stopped is_due status apart (log_write_failed part fails held) is = inr held
+  log_stopped is_due status apart (log_unbegun untouched empty told) is =
+      inl (untouched, empty, (tool_line tool out_of_memory_line, inl (inl refl), line_part status told))
 
 -- How what was begun to be done ended: what its status says of what the streams took, whether a log is kept or not.
 record Ended {A T : Type 0} (commands : Commands A T) (call : Call) (names : List Name) (work : T) : Type 0 where
@@ -266,7 +260,7 @@ begun_headline {A} {T} commands sound call names work asked some known same empt
     let words = call.words in
     let files = call.files in
     record {
-      by_case = for_known commands.asking words files (Go names work) (MeetsCase commands call) known (record {
+      by_case = for_known commands.asking sound.once words files (Go names work) (MeetsCase commands call) known (record {
         status = ended.yields;
         text = λ is. (ended.all (sound.apart call.status is)).0;
         prefix = ended.part;
@@ -365,7 +359,7 @@ run_headline {A} {T} commands sound words files failed failed' out err status jo
 -- what a stop tells of the case where this log is kept
 log_told : {A T : Type 0} (commands : Commands A T) (call : Call) (log : Log T) (names : List Name) (work : T)
     → (IsUntouched call.out × IsEmpty call.journal
-    × TakesStopLines commands.asking.tool (IsDue {T = T} commands.asking.tool (Grew call.failed call.failed') (Go names work) []) call.err)
+    × TakesLine commands.asking.tool (IsDue {T = T} commands.asking.tool (Grew call.failed call.failed') (Go names work) []) call.err)
     ⊎ log.taken work call.journal call.err
     → TellsStop commands call (Logged log) (Go names work)
 log_told commands call log names work (inl unbegun) = inl unbegun
@@ -419,22 +413,24 @@ log_headline {A} {T} commands sound log words files failed failed' out err statu
       among = log_among tool text rows taken due out err journal status ends;
       not_refused = log_not_refused tool text rows taken due out err journal status apart ends;
       quiet = λ is. subst (IsQuiet commands call) (sym logged)
-          (for_known commands.asking words files (Go names work) (λ case. ForRun commands case (λ w. TakesAll err (log.whole w) × log.taken w journal err)) known
+          (for_known commands.asking sound.once words files (Go names work)
+          (λ case. ForRun commands case (λ w. TakesAll err (log.whole w) × log.taken w journal err)) known
           (λ _. (log_whole tool text rows taken due out err journal status ends (sound.apart status is)).1));
       write_fault =
           λ is. subst (TellsWrite commands call) (sym logged) (log_fault tool text rows taken due out err journal status apart ends is);
       stopped = λ is. subst (λ kept. TellsStop commands call kept (Go names work)) (sym logged)
           (log_told commands call log names work
-          (log_stopped tool text rows taken due out err journal (IsDue {T = T} tool (Grew failed failed') (Go names work) []) []
-          (inl refl) status apart ends is));
+          (log_stopped tool text rows taken due out err journal (IsDue {T = T} tool (Grew failed failed') (Go names work) [])
+          status apart ends is));
     })
 
 -- what holds of a case that is known but for a part
-pub for_some : {A T : Type 0} (commands : Commands A T) (words : List (List ℕ)) (files : Option Files) (X : Type 0) (known : X → Case T)
+pub for_some : {A T : Type 0} (commands : Commands A T) (once : HasOneCase commands.asking) (words : List (List ℕ)) (files : Option Files) (X : Type 0) (known : X → Case T)
     (P : Case T → Type 0) → IfSome files (λ told. (x : X) × IsCase commands.asking words told (known x)) → ((x : X) → P (known x))
     → ForCase commands.asking words files P
-for_some commands words None X known P is holds = tt
-for_some commands words (Some files) X known P (x, is) holds = for_known commands.asking words (Some files) (known x) P is (holds x)
+for_some commands once words None X known P is holds = tt
+for_some commands once words (Some files) X known P (x, is) holds =
+    for_known commands.asking once words (Some files) (known x) P is (holds x)
 
 told_some : {A T : Type 0} (commands : Commands A T) (words : List (List ℕ)) (files : Option Files) (X : Type 0) (known : X → Case T)
     (status : ℕ) → IfSome files (λ told. (x : X) × IsCase commands.asking words told (known x))
@@ -444,7 +440,7 @@ told_some commands words None X known status is same = tt
 told_some commands words (Some files) X known status (x, is) same = (known x, is, same x)
 
 -- a refusal
-module _ {A T : Type 0} (commands : Commands A T) (words : List (List ℕ)) (files : Option Files) (before now : List Name)
+module _ {A T : Type 0} (commands : Commands A T) (once : HasOneCase commands.asking) (words : List (List ℕ)) (files : Option Files) (before now : List Name)
     (out err : Change) (error : ℕ → List ℕ) where
   -- the case of words of no command
   abbrev own_usage : List ℕ
@@ -460,13 +456,13 @@ module _ {A T : Type 0} (commands : Commands A T) (words : List (List ℕ)) (fil
       → RefusalEndsOf commands.asking.tool err refusal status
       → ForCase commands.asking words files (λ case. Yields (status_of commands case) (Grew before now) (Fails out ⊎ Fails err) status)
   refused_status RefusedUsage status known shelf (whole all) =
-      for_known commands.asking words files (Refused 2 [] own_usage)
+      for_known commands.asking once words files (Refused 2 [] own_usage)
       (λ case. Yields (status_of commands case) (Grew before now) (Fails out ⊎ Fails err) 2) (usage_known files shelf.0) due_status
   refused_status (RefusedProgram line) status known shelf (whole all) =
-      for_some commands words files Name (λ name. Refused 3 (name ∷ []) line)
+      for_some commands once words files Name (λ name. Refused 3 (name ∷ []) line)
       (λ case. Yields (status_of commands case) (Grew before now) (Fails out ⊎ Fails err) 3) known (λ name. due_status)
   refused_status (RefusedInput line) status known shelf (whole all) =
-      for_some commands words files (List Name) (λ names. Refused 4 names line)
+      for_some commands once words files (List Name) (λ names. Refused 4 names line)
       (λ case. Yields (status_of commands case) (Grew before now) (Fails out ⊎ Fails err) 4) known (λ names. due_status)
   refused_status (ReadFault name) status known shelf (whole all) =
       for_each commands.asking words files (λ case. Yields (status_of commands case) (Grew before now) (Fails out ⊎ Fails err) 7)
@@ -486,14 +482,14 @@ module _ {A T : Type 0} (commands : Commands A T) (words : List (List ℕ)) (fil
       → RefusalEndsOf commands.asking.tool err refusal status
       → ForCase commands.asking words files (λ case. HasCaseLine status → TakesAll err (due_of commands.asking.tool case []))
   refused_line RefusedUsage status known shelf (whole all) =
-      for_known commands.asking words files (Refused 2 [] own_usage)
+      for_known commands.asking once words files (Refused 2 [] own_usage)
       (λ case. HasCaseLine 2 → TakesAll err (due_of commands.asking.tool case []))
       (usage_known files shelf.0) (λ _. all)
   refused_line (RefusedProgram line) status known shelf (whole all) =
-      for_some commands words files Name (λ name. Refused 3 (name ∷ []) line)
+      for_some commands once words files Name (λ name. Refused 3 (name ∷ []) line)
       (λ case. HasCaseLine 3 → TakesAll err (due_of commands.asking.tool case [])) known (λ name _. all)
   refused_line (RefusedInput line) status known shelf (whole all) =
-      for_some commands words files (List Name) (λ names. Refused 4 names line)
+      for_some commands once words files (List Name) (λ names. Refused 4 names line)
       (λ case. HasCaseLine 4 → TakesAll err (due_of commands.asking.tool case [])) known (λ names _. all)
   refused_line (ReadFault name) status known shelf (whole all) =
       for_each commands.asking words files (λ case. HasCaseLine 7 → TakesAll err (due_of commands.asking.tool case []))
@@ -529,15 +525,15 @@ module _ {A T : Type 0} (commands : Commands A T) (words : List (List ℕ)) (fil
       → RefusalEndsOf commands.asking.tool err refusal status
       → ForCase commands.asking words files (λ case. status_of commands case ≡ 7 → Grew before now ⊎ (status ≡ 1) ⊎ Fails err)
   refused_missing RefusedUsage status known shelf (whole all) =
-      for_known commands.asking words files (Refused 2 [] own_usage)
+      for_known commands.asking once words files (Refused 2 [] own_usage)
       (λ case. status_of commands case ≡ 7 → Grew before now ⊎ ◌≡◌ {A = ℕ} 2 1 ⊎ Fails err)
       (usage_known files shelf.0)
       (λ is. absurd (omega (arith, is)))
   refused_missing (RefusedProgram line) status known shelf (whole all) =
-      for_some commands words files Name (λ name. Refused 3 (name ∷ []) line)
+      for_some commands once words files Name (λ name. Refused 3 (name ∷ []) line)
       (λ case. status_of commands case ≡ 7 → Grew before now ⊎ ◌≡◌ {A = ℕ} 3 1 ⊎ Fails err) known (λ name is. absurd (omega (arith, is)))
   refused_missing (RefusedInput line) status known shelf (whole all) =
-      for_some commands words files (List Name) (λ names. Refused 4 names line)
+      for_some commands once words files (List Name) (λ names. Refused 4 names line)
       (λ case. status_of commands case ≡ 7 → Grew before now ⊎ ◌≡◌ {A = ℕ} 4 1 ⊎ Fails err) known (λ names is. absurd (omega (arith, is)))
   refused_missing (ReadFault name) status known shelf (whole all) =
       for_each commands.asking words files (λ case. status_of commands case ≡ 7 → Grew before now ⊎ ◌≡◌ {A = ℕ} 7 1 ⊎ Fails err)
@@ -557,20 +553,20 @@ module _ {A T : Type 0} (commands : Commands A T) (words : List (List ℕ)) (fil
   Due case due = IsDue commands.asking.tool (Grew before now) case (error (status_of commands case)) due
 
   abbrev Stops : Case T → Type 0
-  Stops case = TakesStopLines commands.asking.tool (Due case) err
+  Stops case = TakesLine commands.asking.tool (Due case) err
 
   refused_part : (refusal : Refusal) → IfSome files (λ told. RefusesCase (IsCase commands.asking words told) refusal)
       → RefusesShelf commands.may_read (commands.asking.reading words) before now refusal
       → TakesPart err (refusal_line commands.asking.tool refusal) → ForCase commands.asking words files Stops
   refused_part RefusedUsage known shelf part =
-      for_known commands.asking words files (Refused 2 [] own_usage) Stops (usage_known files shelf.0)
-      (due_lines commands.asking.tool (Due (Refused 2 [] own_usage)) err (tool_line commands.asking.tool own_usage) (inl refl) part)
+      for_known commands.asking once words files (Refused 2 [] own_usage) Stops (usage_known files shelf.0)
+      (tool_line commands.asking.tool own_usage, inr (inl refl), part)
   refused_part (RefusedProgram told) known shelf part =
-      for_some commands words files Name (λ name. Refused 3 (name ∷ []) told) Stops known
-      (λ name. due_lines commands.asking.tool (Due (Refused 3 (name ∷ []) told)) err (tool_line commands.asking.tool told) (inl refl) part)
+      for_some commands once words files Name (λ name. Refused 3 (name ∷ []) told) Stops known
+      (λ name. (tool_line commands.asking.tool told, inr (inl refl), part))
   refused_part (RefusedInput told) known shelf part =
-      for_some commands words files (List Name) (λ names. Refused 4 names told) Stops known
-      (λ names. due_lines commands.asking.tool (Due (Refused 4 names told)) err (tool_line commands.asking.tool told) (inl refl) part)
+      for_some commands once words files (List Name) (λ names. Refused 4 names told) Stops known
+      (λ names. (tool_line commands.asking.tool told, inr (inl refl), part))
   refused_part (ReadFault name) known shelf part = for_read files known
     where
       for_read : (files : Option Files)
@@ -578,13 +574,10 @@ module _ {A T : Type 0} (commands : Commands A T) (words : List (List ℕ)) (fil
           → ForCase commands.asking words files Stops
       for_read None is = tt
       for_read (Some files) (case, is, reads) =
-          for_known commands.asking words (Some files) case Stops is
-          (due_lines commands.asking.tool (Due case) err (tool_line commands.asking.tool (read_fault_line name))
-          (inr (shelf.1, name, reads, refl)) part)
+          for_known commands.asking once words (Some files) case Stops is
+          (tool_line commands.asking.tool (read_fault_line name), inr (inr (shelf.1, name, reads, refl)), part)
   refused_part OutOfMemory known shelf part =
-      for_each commands.asking words files Stops
-      (λ case. stop_lines commands.asking.tool (Due case) err (due_of commands.asking.tool case (error (status_of commands case)))
-      (tool_line commands.asking.tool out_of_memory_line) (inl refl) (inl refl) part)
+      for_each commands.asking words files Stops (λ case. (tool_line commands.asking.tool out_of_memory_line, inl (inl refl), part))
 
   refused_stopped : (refusal : Refusal) (status : ℕ) → IfSome files (λ told. RefusesCase (IsCase commands.asking words told) refusal)
       → RefusesShelf commands.may_read (commands.asking.reading words) before now refusal
@@ -666,14 +659,14 @@ module _ {A : Type 0} (tool : Tool) (may_read : A → Name → Type 0) (asked : 
 
 module _ {A T : Type 0} (commands : Commands A T) where
   -- the case reads a file whose read failed
-  pub reads_failed : (words : List (List ℕ)) (files : Option Files) (name : Name)
+  reads_failed : HasOneCase commands.asking → (words : List (List ℕ)) (files : Option Files) (name : Name)
       → IfSome files (λ told. (case : Case T) × IsCase commands.asking words told case × Contains (names_read case) name)
       → ForCase commands.asking words files (λ case. Contains (names_read case) name)
-  reads_failed words None name is = tt
-  reads_failed words (Some files) name (case, is, reads) =
-      for_known commands.asking words (Some files) case (λ c. Contains (names_read c) name) is reads
+  reads_failed once words None name is = tt
+  reads_failed once words (Some files) name (case, is, reads) =
+      for_known commands.asking once words (Some files) case (λ c. Contains (names_read c) name) is reads
 
-  refused_read : (words : List (List ℕ)) (files : Option Files) (failed failed' : List Name) (out err : Change) (refusal : Refusal)
+  refused_read : HasOneCase commands.asking → (words : List (List ℕ)) (files : Option Files) (failed failed' : List Name) (out err : Change) (refusal : Refusal)
       (status : ℕ) (journal : Journal)
       → IfSome files (λ told. RefusesCase (IsCase commands.asking words told) refusal)
       → RefusesShelf commands.may_read (commands.asking.reading words) failed failed' refusal
@@ -688,17 +681,17 @@ module _ {A T : Type 0} (commands : Commands A T) where
         status = status;
         journal = journal;
       })
-  refused_read words files failed failed' out err RefusedUsage status journal known shelf (whole all) is = absurd (omega (arith, is))
-  refused_read words files failed failed' out err (RefusedProgram line) status journal known shelf (whole all) is =
+  refused_read once words files failed failed' out err RefusedUsage status journal known shelf (whole all) is = absurd (omega (arith, is))
+  refused_read once words files failed failed' out err (RefusedProgram line) status journal known shelf (whole all) is =
       absurd (omega (arith, is))
-  refused_read words files failed failed' out err (RefusedInput line) status journal known shelf (whole all) is = absurd (omega (arith, is))
-  refused_read words files failed failed' out err (ReadFault name) status journal known shelf (whole all) is =
-      record { name = name; read = reads_failed words files name known; asked = shelf.2; alone = shelf.0; grew = shelf.1; line = all }
-  refused_read words files failed failed' out err refusal status journal known shelf (line_no_memory part) is =
+  refused_read once words files failed failed' out err (RefusedInput line) status journal known shelf (whole all) is = absurd (omega (arith, is))
+  refused_read once words files failed failed' out err (ReadFault name) status journal known shelf (whole all) is =
+      record { name = name; read = reads_failed once words files name known; asked = shelf.2; alone = shelf.0; grew = shelf.1; line = all }
+  refused_read once words files failed failed' out err refusal status journal known shelf (line_no_memory part) is =
       absurd (omega (arith, is))
-  refused_read words files failed failed' out err OutOfMemory status journal known shelf (whole all) is =
+  refused_read once words files failed failed' out err OutOfMemory status journal known shelf (whole all) is =
       absurd (omega (arith, is))
-  refused_read words files failed failed' out err refusal status journal known shelf (line_failed part fails) is =
+  refused_read once words files failed failed' out err refusal status journal known shelf (line_failed part fails) is =
       absurd (omega (arith, is))
 
   -- a status that tells the case is that of a whole end or of a line
@@ -724,14 +717,14 @@ module _ {A T : Type 0} (commands : Commands A T) where
   refused_write (Logged log) call (inr (fails, told)) = inl fails
 
   refused_tells : (log : MayLog T) (call : Call) → IsUntouched call.out → IsEmpty call.journal
-      → ((error : ℕ → List ℕ) → ForCase commands.asking call.words call.files (λ case. TakesStopLines commands.asking.tool
+      → ((error : ℕ → List ℕ) → ForCase commands.asking call.words call.files (λ case. TakesLine commands.asking.tool
       (IsDue commands.asking.tool (Grew call.failed call.failed') case (error (status_of commands case))) call.err))
       → ForCase commands.asking call.words call.files (TellsStop commands call log)
   refused_tells Unlogged call untouched empty tells =
       tells (λ status. error_for commands (commands.asking.reading call.words) status call.journal)
   refused_tells (Logged log) call untouched empty tells =
       for_map commands.asking call.words call.files
-      (λ case. TakesStopLines commands.asking.tool (IsDue commands.asking.tool (Grew call.failed call.failed') case []) call.err)
+      (λ case. TakesLine commands.asking.tool (IsDue commands.asking.tool (Grew call.failed call.failed') case []) call.err)
       (TellsStop commands call (Logged log)) (λ case stops. inl (untouched, empty, stops)) (tells (λ status. []))
 
 -- a refusal meets what holds by the case
@@ -769,14 +762,14 @@ refused_meets commands sound words (Some files) failed failed' written faults er
     let not_whole : commands.whole status → ⊥ =
     λ is. refused_not_apart commands.asking.tool err refusal status ends (sound.apart status is) in
     record {
-      status = refused_status commands words (Some files) failed failed' out err (λ s. []) refusal status known shelf ends case is;
+      status = refused_status commands sound.once words (Some files) failed failed' out err (λ s. []) refusal status known shelf ends case is;
       text = λ is_whole. absurd (not_whole is_whole);
       prefix = prefix_none written (text_of commands case);
-      line = refused_line commands words (Some files) failed failed' out err (λ s. []) refusal status known shelf ends case is;
+      line = refused_line commands sound.once words (Some files) failed failed' out err (λ s. []) refusal status known shelf ends case is;
       stopped =
           λ stop. refused_tells commands commands.log call (record { written = refl; faults = refl }) empty
-          (λ error. refused_stopped commands words (Some files) failed failed' out err error refusal status known shelf ends stop) case is;
-      missing = refused_missing commands words (Some files) failed failed' out err (λ s. []) refusal status known shelf ends case is;
+          (λ error. refused_stopped commands sound.once words (Some files) failed failed' out err error refusal status known shelf ends stop) case is;
+      missing = refused_missing commands sound.once words (Some files) failed failed' out err (λ s. []) refusal status known shelf ends case is;
       unbegun = inr empty;
       lawful = empty_lawful commands sound case journal empty;
       complete = λ is_whole. absurd (not_whole is_whole);
@@ -822,7 +815,7 @@ refused_headline commands sound words files failed failed' written faults err st
       by_case =
           refused_meets commands sound words files failed failed' written faults err status journal refusal known shelf empty ends;
       told =
-          λ tells. refused_told commands words files failed failed' out err (λ s. []) refusal status known shelf ends
+          λ tells. refused_told commands sound.once words files failed failed' out err (λ s. []) refusal status known shelf ends
           (tells_apart commands sound status tells);
       among = inr (refused_among commands.asking.tool err refusal status ends);
       usage =
@@ -830,7 +823,7 @@ refused_headline commands sound words files failed failed' written faults err st
       no_command = λ none. refused_words commands.asking.tool err refusal status (untold none) ends;
       refused = λ is. Keeps-same written;
       quiet = λ is. absurd (not_whole is);
-      read_fault = refused_read commands words files failed failed' out err refusal status journal known shelf ends;
+      read_fault = refused_read commands sound.once words files failed failed' out err refusal status journal known shelf ends;
       write_fault = λ is. refused_write commands commands.log call (refused_fault commands.asking.tool out err refusal status ends is);
       untouched =
           λ tells. refused_untouched commands.asking.tool commands.may_read

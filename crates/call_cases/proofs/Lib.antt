@@ -4,6 +4,7 @@ pub mod AskedWork
 pub mod FaultRows
 pub mod Further
 pub mod Headlines
+pub mod LastFiles
 pub mod Loads
 pub mod OneCase
 pub mod Readable

@@ -38,17 +38,18 @@ use Rattle.gp_base.specs.declared.fault.Fault.{Fault}
 use Rattle.gp_base.specs.declared.fault.Faults.{Faults}
 use Rattle.gp_base.specs.declared.feed.Inputs.{Inputs}
 use Rattle.call_cases.specs.meaning.Work.{Files, ToDo, work_for, runs, Case, Refused, Go, after_file}
-use Rattle.call_cases.specs.meaning.InputFiles.{supplied_for, then_load, load_faults, with_faults}
+use Rattle.call_cases.specs.meaning.InputFiles.{supplied_for, then_load, load_faults, with_faults, supplied_by}
 use Rattle.call_cases.specs.InputFiles.{names_for, named, file_names}
 use Rattle.call_cases.specs.inner.Loading.{AnswersLoad, AnswersFaults}
 use Rattle.call_cases.specs.Refusals.{AnswersCase, RefusesCase, RefusesShelf, ReadsAmong}
 use Rattle.call_cases.proofs.Loads.{keeps_faults, then_names, only_one}
 use Rattle.call_cases.specs.meaning.RunCommands.{MayRead, an_input, the_faults, asking}
-use Rattle.call_cases.proofs.OneCase.{some_case_of}
+use Rattle.command_line.specs.meaning.Words.{asked_by}
+use Rattle.call_cases.proofs.OneCase.{some_case_of, run_supplies}
 use Rattle.call_cases.proofs.Answering.{answers_map}
 use Rattle.call_cases.proofs.ReadsProgram.{reads_program}
 use Rattle.call_cases.specs.meaning.Lines.{lex_line, parse_line, check_line}
-use Rattle.call_cases.specs.meaning.Case.{IsCaseOf, of_text, program_case, names_read}
+use Rattle.call_cases.specs.meaning.Case.{IsCaseOf, of_text, IsCheckedCase, names_read}
 use Rattle.call_cases.specs.Decided.{ComesTo, IsAcceptedIn, IsRefusedWith, RefusesLexing, RefusesParsing, RefusesChecking, accepted_case, files_read, case_of}
 use Rattle.gp_base.specs.meaning.Files.{bytes_of, AnswersRead}
 
@@ -94,8 +95,12 @@ pub decided_checking : (asked : Asked) (text : List ℕ) (program : Program) (fa
     → RefusesChecking fault refusal → Means text (Stands program)
     → Told fault (check_fault program) → IsAcceptedIn asked text (Err refusal)
 decided_checking asked text program (check.Bad kind line) refusal refuses stands told =
-    decided_by_line asked text (check_line kind line) refusal refuses
-    (Stands program, stands, λ files. ap (program_case asking files asked program) told)
+    decided_by_line asked text (check_line kind line) refusal refuses (
+      Stands program,
+      stands,
+      λ files. subst (λ fault. IsCheckedCase asking files asked program fault (Refused 3 (asked.program ∷ []) (check_line kind line)))
+          (sym told) refl,
+    )
 decided_checking asked text program check.OutOfMemory refusal refuses stands told =
     subst (λ r. IsAcceptedIn asked text (Err r)) (sym refuses) tt
 
@@ -139,7 +144,7 @@ loaded_err asked program (Some files) (RefusedProgram line) is = absurd is
 loaded_err asked program (Some files) (RefusedInput line) (read, is) =
     (asked.program ∷ read, ap (λ s. after_file asked.program (then_load s (with_faults files asked program))) is)
 loaded_err asked program (Some files) (ReadFault name) is =
-    let supplied = asking.supplied asked program files in (
+    let supplied = supplied_by asked program files in (
       after_file asked.program supplied,
       refl,
       reads_supplied asked.program name supplied
@@ -167,7 +172,7 @@ struck_err asked program (Some files) known inputs refusal same is struck =
     all : Case (List Fault) → Case ToDo
     all given = then_load given (λ names list. Go names (work_for asked program inputs list))
 
-    here : asking.supplied asked program files ≡ all faults_there
+    here : supplied_by asked program files ≡ all faults_there
     here = ap (λ s. then_load s (with_faults files asked program)) is
 
     go : (r : Refusal) → AnswersFaults (names_for asked.command program.heads) (named asked.faults) faults_there (Err r)
@@ -216,8 +221,9 @@ text_case : (files : Files) (asked : Asked) (text : List ℕ) (program : Program
     → Spells text program → check_fault program ≡ None
     → IsCaseOf asking asked files (accepted_case asked program files)
 text_case files asked text program there stands accepted =
-    subst (λ fault. IsCaseOf asking asked files (program_case asking files asked program fault)) accepted
-    (of_text (Stands program) there stands)
+    of_text (Stands program) there stands
+    (subst (λ fault. IsCheckedCase asking files asked program fault (accepted_case asked program files)) (sym accepted)
+    (supplied_by asked program files, refl, refl))
 
 pub accepted_answers : (told known : Option Files) (asked : Asked) (text : List ℕ) (program : Program)
     (result : Result Request Refusal) → known ≡ told → Spells text program → check_fault program ≡ None
@@ -234,7 +240,7 @@ refused_answer : (files : Files) (asked : Asked) (text : List ℕ) (refusal : Re
     → bytes_of files asked.program ≡ Some text → RefusesCase (IsCaseOf asking asked files) refusal
 refused_answer files asked text RefusedUsage is there = absurd is
 refused_answer files asked text (RefusedProgram line) (meaning, means, is) there =
-    (asked.program, subst (IsCaseOf asking asked files) (is files) (of_text meaning there means))
+    (asked.program, of_text meaning there means (is files))
 refused_answer files asked text (RefusedInput line) is there = absurd is
 refused_answer files asked text (ReadFault name) is there = absurd is
 refused_answer files asked text OutOfMemory is there = tt
@@ -264,7 +270,7 @@ refused_reads reading asked text before now OutOfMemory same is = tt
 pub unread_answers : (files : Option Files) (asked : Asked)
     → IfSome files (λ files. RefusesCase (IsCaseOf asking asked files) (ReadFault asked.program))
 unread_answers None asked = tt
-unread_answers (Some files) asked = let k = some_case_of asking asked files in (k.0, k.1, reads_program asking files asked k.0 k.1)
+unread_answers (Some files) asked = let k = some_case_of asking (run_supplies asked_by) asked files in (k.0, k.1, reads_program asking files asked k.0 k.1)
 
 -- a text that is longer than a program may be
 lexed-long : (text : List ℕ) → MOST_PROGRAM_BYTES < length text → lexed text ≡ Err lex.TooLong
@@ -274,7 +280,7 @@ long_file : (files : Files) (asked : Asked) → (found : Option (List ℕ)) → 
     → IsSomeAnd found (λ text. MOST_PROGRAM_BYTES < length text)
     → IsCaseOf asking asked files (Refused 3 (asked.program ∷ []) (lex_line lex.TooLong))
 long_file files asked None is long = absurd long
-long_file files asked (Some text) is long = of_text (LexFails lex.TooLong) is (lexed-long text long)
+long_file files asked (Some text) is long = of_text (LexFails lex.TooLong) is (lexed-long text long) refl
 
 long_answer : (asked : Asked) (files : Files) (name line : List ℕ) (refusal : Refusal) → IsRefusedWith line refusal
     → IsCaseOf asking asked files (Refused 3 (name ∷ []) line) → RefusesCase (IsCaseOf asking asked files) refusal

@@ -7,6 +7,7 @@ use Rattle.gp_base.specs.declared.journal.Event.{Event}
 use Rattle.gp_base.specs.declared.journal.Restart.{Restart}
 use Rattle.gp_base.specs.declared.journal.Journal.{Journal}
 use Rattle.gp_base.proofs.Written.{prefix_none, Keeps-same}
+use Rattle.command_line.specs.meaning.Words.{asked_by}
 use Rattle.command_line.specs.declared.asked.Command.{Command}
 use Rattle.command_line.specs.declared.asked.Command.TheVariants as command
 use Rattle.call_cases.specs.meaning.Work.{ToDo, runs}
@@ -16,6 +17,8 @@ use Rattle.call_cases.specs.meaning.PlainText.{plain_ran}
 use Rattle.call_cases.specs.meaning.Journals.{IsJournalOf, TakesRetired, TakesRetiredFor, retired_in, lines_before}
 use Rattle.call_cases.specs.meaning.Commands.{Asking, Commands, MayLog}
 use Rattle.call_cases.specs.Commands.{IsApart, AreSound}
+use Rattle.call_cases.specs.meaning.Laws.{HasOneCase}
+use Rattle.call_cases.proofs.OneCase.{run_case}
 use Rattle.call_cases.specs.meaning.RunCommands.{IsWhole, end_status, work_status, commands}
 
 -- the status that a work calls for is one of a whole text
@@ -67,11 +70,19 @@ retired_none work journal written faults empty = go work.command
 
 pub commands_sound : AreSound commands
 commands_sound =
-    record { ends = λ work. work_whole work.command work; apart = whole_apart; begins = empty_journal_of; unbegun = retired_none }
+    record {
+      ends = λ work. work_whole work.command work;
+      apart = whole_apart;
+      begins = empty_journal_of;
+      unbegun = retired_none;
+      once = run_case asked_by;
+    }
 
-pub sound_for : {A T : Type 0} (commands : Commands A T) (asking : Asking A T) → AreSound commands
+pub sound_for : {A T : Type 0} (commands : Commands A T) (asking : Asking A T) → HasOneCase asking → AreSound commands
     → AreSound (record commands { asking = asking })
-sound_for commands asking sound = record { ends = sound.ends; apart = sound.apart; begins = sound.begins; unbegun = sound.unbegun }
+sound_for commands asking once sound =
+    record { ends = sound.ends; apart = sound.apart; begins = sound.begins; unbegun = sound.unbegun; once = once }
 
 pub sound_with : {A T : Type 0} (commands : Commands A T) (log : MayLog T) → AreSound commands → AreSound (record commands { log = log })
-sound_with commands log sound = record { ends = sound.ends; apart = sound.apart; begins = sound.begins; unbegun = sound.unbegun }
+sound_with commands log sound =
+    record { ends = sound.ends; apart = sound.apart; begins = sound.begins; unbegun = sound.unbegun; once = sound.once }

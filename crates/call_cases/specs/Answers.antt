@@ -7,7 +7,7 @@ use Rattle.gp_base.specs.declared.journal.Journal.{Journal}
 use Rattle.call_cases.specs.declared.lines.Tool.{Tool}
 use Rattle.call_cases.specs.declared.lines.Tool.TheVariants.{Gprs}
 use Rattle.call_cases.specs.meaning.Lines.{tool_line, out_of_memory_line, write_fault_line}
-use Rattle.call_cases.specs.meaning.Answers.{Change, Fails, IsEmpty, IsUntouched, TakesAll, TakesPart, TakesStop}
+use Rattle.call_cases.specs.meaning.Answers.{Change, Fails, IsEmpty, IsStopLine, IsUntouched, TakesAll, TakesPart}
 
 -- nothing was done to a sink with these bytes and this count
 abbrev pub unwritten : Option (List ℕ) → ℕ → Change
@@ -20,14 +20,18 @@ pub data LineEnds (due : ℕ) (line : List ℕ) (err : Change) : ℕ → Type 0 
   line_failed : TakesPart err line → Fails err → LineEnds due line err 8
   line_no_memory : TakesPart err line → LineEnds due line err 1
 
--- How a work ends whose text and status are these, and which writes this trace to the error stream, or a prefix of it
--- and then of the line that tells why it stopped.
+-- a prefix of one text alone was taken: of this trace, or of the line that tells why the call stopped
+abbrev pub TakesOneOf : Tool → (trace : List ℕ) → Change → Type 0
+TakesOneOf tool trace err = (line : List ℕ) × ((line ≡ trace) ⊎ IsStopLine tool line) × TakesPart err line
+
+-- How a work ends whose text and status are these, and which writes this trace to the error stream, or a prefix of it,
+-- or of the line that tells why it stopped.
 pub data RunEndsOf (tool : Tool) (text trace : List ℕ) (due : ℕ) (out err : Change) : ℕ → Type 0 where
   finished : TakesAll out text → TakesAll err trace → RunEndsOf tool text trace due out err due
-  run_no_memory : TakesPart out text → TakesStop tool trace err → RunEndsOf tool text trace due out err 1
+  run_no_memory : TakesPart out text → TakesOneOf tool trace err → RunEndsOf tool text trace due out err 1
   output_failed : TakesPart out text → Fails out → TakesAll err (tool_line tool write_fault_line)
       → RunEndsOf tool text trace due out err 8
-  error_failed : TakesPart out text → Fails err → TakesStop tool trace err → RunEndsOf tool text trace due out err 8
+  error_failed : TakesPart out text → Fails err → TakesOneOf tool trace err → RunEndsOf tool text trace due out err 8
 
 -- How a work ends whose text and status are these, and of which this log is kept on the error stream; `taken` says what
 -- of the log that took, also where the work stopped on the way. Where memory ran out before a run began, the line of

@@ -1,5 +1,5 @@
 -- What is known of the case of a call once its words and its program were read.
-use Rattle.std.specs.Prelude.{◌≡◌, ◌≤◌, List, [], ℕ, ◌∷◌, ◌++◌, true, Result, None, ⊤}
+use Rattle.std.specs.Prelude.{◌≡◌, ◌≤◌, List, [], ℕ, ◌∷◌, ◌++◌, true, Result, ⊤}
 use Rattle.std.specs.declared.result.Result.TheVariants.{Ok, Err}
 use Rattle.task_ast.specs.meaning.Tree.{Name, Program}
 use Rattle.gp_base.specs.declared.limits.TheConstants.{MOST_WORKERS}
@@ -20,10 +20,11 @@ use Rattle.command_line.specs.declared.asked.Asked.{Asked}
 use Rattle.call_cases.specs.declared.work.Request.{Request}
 use Rattle.call_cases.specs.declared.reading.Refusal.{Refusal}
 use Rattle.call_cases.specs.declared.reading.Refusal.TheVariants.{BadProgram as RefusedProgram, OutOfMemory}
-use Rattle.call_cases.specs.meaning.Work.{Files, ToDo, work_for, runs, Case, Refused, Go}
+use Rattle.call_cases.specs.meaning.Work.{Files, ToDo, work_for, runs, Case, Refused, Go, after_file}
+use Rattle.call_cases.specs.meaning.InputFiles.{supplied_by}
 use Rattle.call_cases.specs.InputFiles.{names_for, named}
 use Rattle.call_cases.specs.meaning.RunCommands.{asking}
-use Rattle.call_cases.specs.meaning.Case.{program_case, meant_case}
+use Rattle.call_cases.specs.meaning.Case.{IsMeantCase}
 use Rattle.call_cases.specs.meaning.Lines.{lex_line, parse_line, check_line}
 
 -- the program of a request, what is to be done with it, and the files that were read for it
@@ -42,7 +43,7 @@ case_of request = Go (files_read request.asked (program_in request)) (work_of re
 
 -- the case of what is asked, where the program's file has this text, whatever other files there are
 abbrev pub ComesTo : Asked → List ℕ → Case ToDo → Type 0
-ComesTo asked text case = (meaning : Meaning) × Means text meaning × ((files : Files) → meant_case asking files asked meaning ≡ case)
+ComesTo asked text case = (meaning : Meaning) × Means text meaning × ((files : Files) → IsMeantCase asking files asked meaning case)
 
 -- the program of a text, where it is accepted, or the line of the text
 abbrev pub IsAcceptedIn : Asked → List ℕ → Result Checked Refusal → Type 0
@@ -53,7 +54,7 @@ IsAcceptedIn asked text (Err refusal) = ⊥
 
 -- the case of an accepted program
 abbrev pub accepted_case : Asked → Program → Files → Case ToDo
-accepted_case asked program files = program_case asking files asked program None
+accepted_case asked program files = after_file asked.program (supplied_by asked program files)
 
 -- What may be run: the inputs are those of the program, the number of the command lies within its range, and there is a
 -- worker and no more than there may be.

@@ -1,12 +1,10 @@
-// Laws of the case of a call.
-ghost use Rattle.call_cases.specs.meaning.Laws.{OneCase, SomeCase};
+// A law of the case of a call.
+ghost use Rattle.std.specs.Prelude.{ℕ, List, Option};
+ghost use Rattle.command_line.specs.declared.asked.Asked.{Asked};
+ghost use Rattle.call_cases.specs.meaning.RunCommands.{asking};
+ghost use Rattle.call_cases.specs.meaning.Laws.{HasOneCase};
 
-/// A law: a call has one case at most, whatever its words may ask for (`A`), and whatever there may be to do (`T`).
-pub fn one_case<A, T>()
-    ensures { OneCase A T }
-{}
-
-/// A law: a call has a case.
-pub fn some_case<A, T>()
-    ensures { SomeCase A T }
+/// A law: each call of `gprs_run`, and of each other top call with its promises, has one case, whichever its words are.
+pub fn one_case()
+    ensures { (reading : List (List ℕ) → Option Asked) → HasOneCase (record asking { reading = reading }) }
 {}

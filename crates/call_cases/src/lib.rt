@@ -12,7 +12,7 @@ mod reading;
 mod work;
 
 pub use agreed::Reading;
-pub use cases::{one_case, some_case};
+pub use cases::one_case;
 pub use endings::{
     Outcome, empty_journal, end_status, plain_outcome, refuse, refused_outcome, stop_by,
 };

@@ -21,17 +21,16 @@ use Rattle.crew.specs.meaning.Noted.{left_in_order}
 use Rattle.retirement_log.specs.meaning.Rows.{Retirement}
 use Rattle.retirement_log.specs.meaning.Log.{log_told}
 use Rattle.retirement_log.specs.meaning.Telling.{TellsPart}
-use Rattle.gp_resume.specs.meaning.Reading.{Rows, IsLogOf}
+use Rattle.gp_resume.specs.meaning.Reading.{IsLogOf}
 use Rattle.gp_resume.specs.meaning.Resumed.{lines_of}
 use Rattle.gp_resume.specs.meaning.Resumed as rest
 use Rattle.gp_resume.specs.Laws.{own_rows, text_before}
-use Rattle.gp_resume.proofs.LogAnswers.{one-answer}
 use Rattle.gp_resume.proofs.Texts.{joined}
 use Rattle.command_line.specs.declared.asked.Asked.{Asked}
 use Rattle.command_line.specs.declared.asked.Command.TheVariants.{One, Log}
 use Rattle.call_cases.specs.meaning.Work.{Files, ToDo, is_journalled, work_for, Case, Refused, Go, after_file}
 use Rattle.call_cases.specs.meaning.Answers.{Change, TakesAll}
-use Rattle.call_cases.specs.meaning.Case.{IsCaseOf, IsCase, no_program, of_text, program_case, meant_case, ForCase, ForRun, HasWork, text_of}
+use Rattle.call_cases.specs.meaning.Case.{IsCaseOf, IsCase, no_program, of_text, IsCheckedCase, IsMeantCase, ForCase, ForRun, HasWork, text_of}
 use Rattle.call_cases.specs.meaning.InputFiles.{supplied_by, supplied_for, then_load, with_faults, load_faults}
 use Rattle.call_cases.specs.meaning.Journals.{run_of, retired_in, lines_before, HoldsRetired, TakesRetiredFor}
 use Rattle.call_cases.specs.meaning.RunCommands as run
@@ -39,9 +38,8 @@ use Rattle.call_cases.specs.meaning.Headline.{Call, TellsStop, MeetsCase, Headli
 use Rattle.call_cases.proofs.OneCase.{one_case_of}
 use Rattle.batch_calls.specs.meaning.LogCommands as log
 use Rattle.batch_calls.specs.meaning.LogCommands.{TakesLog}
-use Rattle.resume_calls.specs.meaning.Resumption.{answer_for}
 use Rattle.resume_calls.specs.meaning.ResumeCommands as resume
-use Rattle.resume_calls.proofs.HaltedCases.{rows_case}
+use Rattle.resume_calls.proofs.HaltedCases.{rows_case, supplies_once}
 use Rattle.resume_calls.proofs.JoinedTexts.{cut_joined, same_text}
 use Rattle.call_laws.specs.meaning.Laws.{Wrote, HasBegun, IsSameBatch, BeginsText, LoggedLaw}
 use Rattle.call_laws.proofs.Parts.{told_answer, lines_split}
@@ -71,21 +69,24 @@ module _ (asked : Asked) (files : Files) where
   goes program (Go names work) accepted same = subst IsAccepted (sym same) accepted
   goes program (Refused status names line) accepted same = tt
 
-  checked : (program : Program) (fault : Option (CheckKind × ℕ)) → IsTrue (is_shaped program) → check_fault program ≡ fault
-      → GoesAccepted (program_case run.asking files asked program fault)
-  checked program (Some fault) shaped is = tt
-  checked program None shaped is =
-      goes program (supplied_by asked program files) (record { shaped = shaped; faultless = is })
-      (inputs_for program (supplied_for asked.command program.heads files))
+  checked : (program : Program) (fault : Option (CheckKind × ℕ)) (case : Case ToDo) → IsTrue (is_shaped program) → check_fault program ≡ fault
+      → IsCheckedCase run.asking files asked program fault case → GoesAccepted case
+  checked program (Some fault) case shaped is comes = subst GoesAccepted (sym comes) tt
+  checked program None case shaped is (given, supplies, comes) =
+      subst GoesAccepted (sym comes)
+      (goes program given (record { shaped = shaped; faultless = is })
+      (subst (SuppliesFor program) (sym supplies) (inputs_for program (supplied_for asked.command program.heads files))))
 
-  meant : (meaning : Meaning) (text : List ℕ) → Means text meaning → GoesAccepted (meant_case run.asking files asked meaning)
-  meant (LexFails fault) text means = tt
-  meant (ParseFails fault) text means = tt
-  meant (Stands program) text means = checked program (check_fault program) (spelled_is_shaped text program means) refl
+  meant : (meaning : Meaning) (text : List ℕ) (case : Case ToDo) → Means text meaning → IsMeantCase run.asking files asked meaning case
+      → GoesAccepted case
+  meant (LexFails fault) text case means comes = subst GoesAccepted (sym comes) tt
+  meant (ParseFails fault) text case means comes = subst GoesAccepted (sym comes) tt
+  meant (Stands program) text case means comes =
+      checked program (check_fault program) case (spelled_is_shaped text program means) refl comes
 
   accepted_case : (case : Case ToDo) → IsCaseOf run.asking asked files case → GoesAccepted case
   accepted_case case (no_program absent) = tt
-  accepted_case case (of_text {text} meaning there means) = meant meaning text means
+  accepted_case case (of_text {text} meaning there means comes) = meant meaning text case means comes
 
 -- ---- what the headline says of the log and of the output
 
@@ -167,10 +168,10 @@ module _ (work other : ToDo) (same : IsSameBatch work other) where
 -- ---- the law
 
 pub logged_law : LoggedLaw
-logged_law reader call files names work logged headline known is command begun wrote short resumed files' names' other case is' same holds is_case = (
+logged_law call files names work logged headline known is command begun wrote short resumed files' names' other case is' same holds is_case = (
   subst HasWork one tt,
   length (text_before other.program other.inputs other.limits p),
-  subst (λ c. take (length (text_before other.program other.inputs other.limits p)) (run.work_text One other) ++ text_of (resume.commands reader) c
+  subst (λ c. take (length (text_before other.program other.inputs other.limits p)) (run.work_text One other) ++ text_of resume.commands c
       ≡ run.work_text One other) one
       (cut_joined (text_before other.program other.inputs other.limits p)
       (rest.text other.program other.inputs other.limits rows) (run.work_text One other)
@@ -206,12 +207,7 @@ logged_law reader call files names work logged headline known is command begun w
     log_of =
         subst (λ bytes. IsLogOf other.program other.inputs other.limits bytes rows) (sym (took call.err logged _ wrote part.taken)) found.3
 
-    answer : answer_for reader other logged ≡ Rows rows
-    answer =
-        one-answer other.program other.inputs other.limits logged (answer_for reader other logged) (Rows rows)
-        (reader.answers other.program other.inputs other.limits logged) log_of
-
     one : Go (names' ++ resumed.log ∷ []) (record { work = other; rows = rows }) ≡ case
     one =
-        one_case_of (resume.asking reader) resumed files' (Go (names' ++ resumed.log ∷ []) (record { work = other; rows = rows })) case
-        (rows_case reader resumed files' names' other logged rows is' (holds, short) answer) is_case
+        one_case_of resume.asking supplies_once resumed files' (Go (names' ++ resumed.log ∷ []) (record { work = other; rows = rows })) case
+        (rows_case resumed files' names' other logged rows is' (holds, short) log_of) is_case

@@ -16,15 +16,21 @@ use Rattle.call_cases.specs.meaning.PlainText.{plain_ran}
 use Rattle.call_cases.specs.meaning.Case.{IsCase, no_command, ForCase, names_read, due_of}
 use Rattle.call_cases.specs.meaning.Lines.{tool_line, usage_line, read_fault_line, out_of_memory_line}
 use Rattle.call_cases.specs.Refusals.{RefusesCase, RefusesWords, refusal_line, refusal_status}
-use Rattle.call_cases.specs.meaning.Answers.{Change, no_journal, TakesAll, TakesPart, Fails, Grew, Yields, due_status, no_memory, read_fault, write_fault}
+use Rattle.call_cases.specs.meaning.Answers.{Change, no_journal, TakesAll, TakesPart, Fails, Grew, IsStopLine, Yields, due_status, no_memory, read_fault, write_fault}
 use Rattle.call_cases.specs.meaning.Headline.{Call, HasCaseLine, IsStop, TellsReadFault}
 use Rattle.call_cases.proofs.OneCase.{for_known, for_each}
 use Rattle.explain_calls.specs.meaning.Commands.{explained_by, asking, case_status}
 use Rattle.explain_calls.specs.meaning.Fronts.{IsHint, IsText}
-use Rattle.explain_calls.specs.meaning.Explains.{IsExplained, IsOwnText, IsOwnLine, Explains}
+use Rattle.explain_calls.specs.meaning.Explains.{IsExplained, IsOwnText, Explains}
 use Rattle.explain_calls.specs.Endings.{TellEnds, RunTold, TextFor, LeavesShelf}
 use Rattle.explain_calls.proofs.Outcomes.{IsOwn, WriteFails, Outcome, done, failed, short, outcome, outcome_part, none_part}
-use Rattle.explain_calls.proofs.OwnCases.{some_text}
+use Rattle.explain_calls.proofs.OwnCases.{explain_case, some_text}
+
+-- the line of a stop, what is due for the case, or, where a read failed, the line of a file that it reads
+abbrev IsOwnLine : Call → Case ToDo → List ℕ → Type 0
+IsOwnLine call case line =
+    IsStopLine GprsView line ⊎ (line ≡ due_of GprsView case []) ⊎ Grew call.failed call.failed'
+    × (name : Name) × Contains (names_read case) name × (line ≡ tool_line GprsView (read_fault_line name))
 
 module _ (words : List (List ℕ)) (files : Option Files) (before now : List Name) (out err : Change) where
   abbrev call : ℕ → Call
@@ -61,7 +67,7 @@ module _ (words : List (List ℕ)) (files : Option Files) (before now : List Nam
       where
         go : (told : Option Files) → IfSome told (λ some. (x : X) × IsCase asking words some (known x)) → ForCase asking words told P
         go None one = tt
-        go (Some some) (x, one) = for_known asking words (Some some) (known x) P one (holds x)
+        go (Some some) (x, one) = for_known asking explain_case words (Some some) (known x) P one (holds x)
 
     told_one : (status : ℕ) → IfSome files (λ told. (x : X) × IsCase asking words told (known x)) → ((x : X) → case_status (known x) ≡ status)
         → IfSome files (λ told. (case : Case ToDo) × IsCase asking words told case × (case_status case ≡ status))
@@ -73,8 +79,8 @@ module _ (words : List (List ℕ)) (files : Option Files) (before now : List Nam
         go (Some some) (x, one) = (known x, one, same x)
 
   line_of : (status : ℕ) (case : Case ToDo) (line l : List ℕ) → case_line case ≡ line → IsOwn line l → IsOwnLine (call status) case l
-  line_of status case line l same (inl is) = inl (inl (is ∙ sym same))
-  line_of status case line l same (inr is) = inr is
+  line_of status case line l same (inl is) = inr (inl (is ∙ sym same))
+  line_of status case line l same (inr is) = inl is
 
   -- what is told is that of a case that is known
   module _ (X : Type 0) (known : X → Case ToDo) (text : List ℕ) (due : ℕ) (line : List ℕ)
@@ -234,7 +240,7 @@ module _ (words : List (List ℕ)) (files : Option Files) (before now : List Nam
         go : (told : Option Files) → ForCase asking words told (λ case. IsOwnLine (call due) case line) → ForCase asking words told Halted
         go None each = tt
         go (Some some) each = λ case is_case. (line, each case is_case, subst (TakesPart err) is part)
-    for_line l (inr is) part = for_each asking words files Halted (λ case. (l, inr is, part))
+    for_line l (inr is) part = for_each asking words files Halted (λ case. (l, inl is, part))
 
     other_stopped : (status : ℕ) → Outcome text due line out err status → For Halted
     other_stopped status (done all taken) = for_line line (inl refl) (outcome_part line due line err err due (done taken taken))
@@ -312,21 +318,21 @@ module _ (words : List (List ℕ)) (files : Option Files) (before now : List Nam
           → ForCase asking words told (λ case. Contains (names_read case) name)
       read_in None one = tt
       read_in (Some some) (case, one, reads) =
-          for_known asking words (Some some) case (λ c. Contains (names_read c) name) one reads
+          for_known asking explain_case words (Some some) case (λ c. Contains (names_read c) name) one reads
 
       line_in : (told : Option Files)
           → IfSome told (λ some. (case : Case ToDo) × IsCase asking words some case × Contains (names_read case) name)
           → ForCase asking words told (λ case. IsOwnLine (call 7) case (tool_line GprsView (read_fault_line name)))
       line_in None one = tt
       line_in (Some some) (case, one, reads) =
-          for_known asking words (Some some) case
-          (λ c. IsOwnLine (call 7) c (tool_line GprsView (read_fault_line name))) one (inl (inr (shelf.1, name, reads, refl)))
+          for_known asking explain_case words (Some some) case
+          (λ c. IsOwnLine (call 7) c (tool_line GprsView (read_fault_line name))) one (inr (inr (shelf.1, name, reads, refl)))
   refusal_explains OutOfMemory text status no_text untold unread is shelf ends =
       explains_other [] 1 (tool_line GprsView out_of_memory_line) (λ case. no_memory) (inr refl) (λ none. no_memory)
       (λ status seven. absurd (omega (arith, seven)))
       (λ status part. for_each asking words files (λ case. (told : List ℕ) × IsOwnText (call status) case told × TakesPart out told)
       (λ case. let some = some_text case in (some.0, inl some.1, none_part out some.0 part)))
-      (for_each asking words files (λ case. IsOwnLine (call 1) case (tool_line GprsView out_of_memory_line)) (λ case. inr (inl refl)))
+      (for_each asking words files (λ case. IsOwnLine (call 1) case (tool_line GprsView out_of_memory_line)) (λ case. inl (inl refl)))
       unread status
       (outcome [] 1 (tool_line GprsView out_of_memory_line) out err status
       (subst (λ t. TellEnds t 1 (tool_line GprsView out_of_memory_line) out err status) no_text ends))

@@ -16,14 +16,24 @@ use Rattle.call_cases.specs.meaning.RunCommands.{MayRead}
 use Rattle.call_cases.specs.meaning.Case.{IsCaseOf, no_program, of_text, IsCase}
 use Rattle.call_cases.specs.Decided.{case_of}
 use Rattle.call_cases.specs.Refusals.{AnswersCase, RefusesCase, RefusesShelf, RefusesWords}
+use Rattle.call_cases.specs.meaning.InputFiles.{supplied_by}
+use Rattle.call_cases.specs.meaning.Laws.{HasOneCase}
 use Rattle.call_cases.proofs.Answering.{answers_map, asked_case}
+use Rattle.call_cases.proofs.OneCase.{has_one_case}
 use Rattle.explain_calls.specs.Endings.{IsOrShort, KeepsFor, LeavesShelf}
 use Rattle.explain_calls.specs.meaning.Commands.{asking, explained_by}
 use Rattle.explain_calls.specs.meaning.Fronts.{front, IsText}
 
 own_case : (asked : Asked) (files : Files) (case : Case ToDo) → IsCaseOf run.asking asked files case → IsCaseOf asking asked files case
 own_case asked files case (no_program absent) = no_program absent
-own_case asked files case (of_text meaning there means) = of_text meaning there means
+own_case asked files case (of_text meaning there means is) = of_text meaning there means is
+
+pub explain_case : HasOneCase asking
+explain_case =
+    has_one_case asking (record {
+      some = λ asked program files. (supplied_by asked program files, refl);
+      one = λ asked program files a b is other. is ∙ sym other;
+    })
 
 own_answers : (told : Option Files) (asked : Asked) (result : Result Request Refusal)
     → IfSome told (λ files. AnswersCase case_of (IsCaseOf run.asking asked files) result)

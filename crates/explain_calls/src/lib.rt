@@ -3,6 +3,7 @@
 #![tactic(auto)]
 
 mod file_names;
+pub mod laws;
 mod reading;
 mod refused;
 mod running;

@@ -5,9 +5,7 @@ use Rattle.call_cases.specs.meaning.RunCommands as run
 use Rattle.batch_calls.specs.meaning.WaitingCommands as waiting
 use Rattle.batch_calls.specs.meaning.CkptCommands as ckpt
 use Rattle.batch_calls.specs.meaning.LogCommands as log
-use Rattle.audit_calls.specs.meaning.Tried.{Judge}
 use Rattle.audit_calls.specs.meaning.AuditCommands as audit
-use Rattle.resume_calls.specs.meaning.Resumption.{Reader}
 use Rattle.resume_calls.specs.meaning.ResumeCommands as resume
 use Rattle.gprs.specs.declared.choice.TopCall.{TopCall}
 use Rattle.gprs.specs.declared.choice.TopCall.TheVariants.{Run, Pipe, Audit, Ckpt, Log, Resume}
@@ -26,7 +24,7 @@ module _ (words : List (List ℕ)) (call : Call) (taken : TopCall) (takes : take
   unfolding Promised
   pipe_kept is headline = kept Pipe is headline
 
-  pub audit_kept : taken ≡ Audit → ((judge : Judge) → Headline (audit.commands judge) call) → Promised (top_call words) call
+  pub audit_kept : taken ≡ Audit → Headline audit.commands call → Promised (top_call words) call
   unfolding Promised
   audit_kept is headline = kept Audit is headline
 
@@ -38,6 +36,6 @@ module _ (words : List (List ℕ)) (call : Call) (taken : TopCall) (takes : take
   unfolding Promised
   log_kept is headline = kept Log is headline
 
-  pub resume_kept : taken ≡ Resume → ((reader : Reader) → Headline (resume.commands reader) call) → Promised (top_call words) call
+  pub resume_kept : taken ≡ Resume → Headline resume.commands call → Promised (top_call words) call
   unfolding Promised
   resume_kept is headline = kept Resume is headline

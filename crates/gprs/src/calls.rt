@@ -3,7 +3,6 @@ ghost use Rattle.std.specs.Prelude.{◌≡◌, IfOk, OnErr};
 ghost use Rattle.gp_base.specs.declared.journal.Journal.{Journal};
 ghost use Rattle.command_line.specs.meaning.Words.{texts};
 ghost use Rattle.call_cases.specs.meaning.Answers.{change_of};
-ghost use Rattle.resume_calls.specs.meaning.Resumption.{Reader};
 ghost use Rattle.resume_calls.specs.meaning.ResumeCommands as resume;
 ghost use Rattle.call_cases.specs.meaning.Headline.{Headline};
 ghost use Rattle.gprs.specs.meaning.Choice.{top_call};
@@ -27,7 +26,7 @@ fn resumed<R: Threads + Sync + AllocGlobal, H: Shelf, O: Sink, E: Sink>(
     out: &mut O,
     err: &mut E,
 ) -> Outcome
-    ensures headline { (reader : Reader) → Headline (resume.commands reader) (record {
+    ensures headline { Headline resume.commands (record {
       words = texts words.now;
       files = H.files shelf.old;
       failed = H.failed shelf.old;

@@ -26,9 +26,9 @@ use Rattle.call_cases.specs.meaning.Lines.{input_line}
 use Rattle.call_cases.specs.Refusals.{RefusesCase, RefusesShelf, IsInputRefused, RefusalEnds}
 use Rattle.call_cases.proofs.Headlines.{none_taken, run_of_failed, run_of_memory, run_headline, refused_headline}
 use Rattle.resume_calls.specs.declared.halted.Halted.{Halted}
-use Rattle.resume_calls.specs.meaning.Resumption.{Reader, answer_for, by_answer}
+use Rattle.resume_calls.specs.meaning.Resumption.{by_answer}
 use Rattle.resume_calls.specs.meaning.ResumeCommands.{MayRead, rest_status, rest_text, asking, commands}
-use Rattle.resume_calls.specs.inner.Halting.{resumed_in, files_before, case_of}
+use Rattle.resume_calls.specs.inner.Halting.{Reader, answer_for, resumed_in, files_before, case_of}
 use Rattle.resume_calls.specs.inner.Resting.{Resumes, EndsSo, EndsRest}
 use Rattle.resume_calls.proofs.Sound.{commands_sound}
 
@@ -47,13 +47,6 @@ file_refuses may_read asked files of names line failed failed' (refused.ReadFaul
 file_refuses may_read asked None of names line failed failed' refused.OutOfMemory known kept is = (tt, tt)
 file_refuses may_read asked (Some files) of names line failed failed' refused.OutOfMemory known kept is = (tt, tt)
 
--- two answers to a log are one
-module _ (one : OneAnswerLaw) (reader : Reader) (work : ToDo) (bytes : List ℕ) where
-  pub answered : (answer : LogAnswer) → IsAnswer work.program work.inputs work.limits bytes answer → answer_for reader work bytes ≡ answer
-  answered answer is =
-      one work.program work.inputs work.limits bytes (answer_for reader work bytes) answer
-      (reader.answers work.program work.inputs work.limits bytes) is
-
 module _ (one : OneAnswerLaw) (reader : Reader) (words : List (List ℕ)) (files : Option Files) (failed failed' : List Name)
     (out err : Change) (status : ℕ) (journal : Journal) (halted : Halted)
     (some : resumed_by words ≡ Some (resumed_in halted)) (kept : failed' ≡ failed) (empty : IsEmpty journal) where
@@ -61,7 +54,7 @@ module _ (one : OneAnswerLaw) (reader : Reader) (words : List (List ℕ)) (files
   work = work_of halted.request
 
   abbrev Promised : Type 0
-  Promised = Headline (commands reader) (record {
+  Promised = Headline commands (record {
     words = words;
     files = files;
     failed = failed;
@@ -74,7 +67,7 @@ module _ (one : OneAnswerLaw) (reader : Reader) (words : List (List ℕ)) (files
 
   abbrev Known : LogAnswer → Type 0
   Known answer =
-      IfSome files (λ told. IsCase (asking reader) words told ((by_answer (files_before halted) halted.log work answer)))
+      IfSome files (λ told. IsCase asking words told (by_answer halted.log (files_before halted ++ halted.log ∷ []) work answer))
 
   abbrev Answered : LogAnswer → Type 0
   Answered answer = IsAnswer work.program work.inputs work.limits halted.text answer
@@ -90,16 +83,16 @@ module _ (one : OneAnswerLaw) (reader : Reader) (words : List (List ℕ)) (files
       → RunEnds (rest_text (record { work = work; rows = rows })) [] (rest_status (record { work = work; rows = rows })) out err status
       → Promised
   went_on rows known ends =
-      run_headline (commands reader) (commands_sound reader) words files failed failed' out err status journal
+      run_headline commands commands_sound words files failed failed' out err status journal
       (files_before halted ++ halted.log ∷ []) (record { work = work; rows = rows })
       (resumed_in halted) refl some known kept (λ none. empty) (λ begins. cc begins) ends
 
   -- nothing was written
   untouched : (refusal : Refusal) → out.written' ≡ out.written → out.faults' ≡ out.faults
-      → IfSome files (λ told. RefusesCase (IsCase (asking reader) words told) refusal)
+      → IfSome files (λ told. RefusesCase (IsCase asking words told) refusal)
       → RefusesShelf MayRead (resumed_by words) failed failed' refusal → RefusalEnds err refusal status → Promised
   untouched refusal written faults known shelf ends =
-      subst (λ change. Headline (commands reader)
+      subst (λ change. Headline commands
       (record {
         words = words;
         files = files;
@@ -110,7 +103,7 @@ module _ (one : OneAnswerLaw) (reader : Reader) (words : List (List ℕ)) (files
         status = status;
         journal = journal;
       })) same
-      (refused_headline (commands reader) (commands_sound reader) words files failed failed' out.written out.faults
+      (refused_headline commands commands_sound words files failed failed' out.written out.faults
       err status journal refusal
       (λ none. absurd (let never : Some (resumed_in halted) ≡ None = sym some ∙ none in cc never))
       (λ nothing. kept) known shelf empty ends)
@@ -122,11 +115,11 @@ module _ (one : OneAnswerLaw) (reader : Reader) (words : List (List ℕ)) (files
 
   -- the log is refused with this line
   log_refused : (line : List ℕ) (refusal : Refusal)
-      → IfSome files (λ told. IsCase (asking reader) words told (Refused 4 (files_before halted ++ halted.log ∷ []) line))
+      → IfSome files (λ told. IsCase asking words told (Refused 4 (files_before halted ++ halted.log ∷ []) line))
       → out.written' ≡ out.written → out.faults' ≡ out.faults → IsInputRefused line refusal → RefusalEnds err refusal status → Promised
   log_refused line refusal known written faults is ends =
       let refuses =
-      file_refuses MayRead (resumed_by words) files (λ told. IsCase (asking reader) words told)
+      file_refuses MayRead (resumed_by words) files (λ told. IsCase asking words told)
       (files_before halted ++ halted.log ∷ []) line failed failed' refusal known kept is in
       untouched refusal written faults refuses.0 refuses.1 ends
 
@@ -184,7 +177,7 @@ module _ (one : OneAnswerLaw) (reader : Reader) (words : List (List ℕ)) (files
       log_refused (input_line halted.log 8 number) refused.OutOfMemory known nothing.0 nothing.1 tt ends
 
   -- what went on, and ended so, meets the promise
-  pub rest_headline : IfSome files (λ told. IsCase (asking reader) words told (case_of reader halted)) → EndsRest halted out err status
+  pub rest_headline : IfSome files (λ told. IsCase asking words told (case_of reader halted)) → EndsRest halted out err status
       → Promised
   rest_headline known ended =
       go (answer_for reader work halted.text) (reader.answers work.program work.inputs work.limits halted.text) known

@@ -1,16 +1,14 @@
--- There is one reader of logs.
-use Rattle.gp_resume.specs.Laws.{OneAnswerLaw, SomeAnswerLaw}
-use Rattle.resume_calls.specs.meaning.Resumption.{Reader}
-use Rattle.resume_calls.specs.meaning.Laws.{OneReader}
+-- There is a reader of logs.
+use Rattle.gp_resume.specs.Laws.{SomeAnswerLaw}
+use Rattle.gp_resume.proofs.LogAnswers.{some-answer}
+use Rattle.resume_calls.specs.inner.Halting.{Reader}
 
-pub one_reader : OneAnswerLaw → OneReader
-one_reader one reader other program inputs limits bytes =
-    one program inputs limits bytes (reader.answer_of program inputs limits bytes) (other.answer_of program inputs limits bytes)
-    (reader.answers program inputs limits bytes) (other.answers program inputs limits bytes)
-
-pub some_reader : SomeAnswerLaw → Reader
-some_reader some =
+reader_by : SomeAnswerLaw → Reader
+reader_by some =
     record {
       answer_of = λ program inputs limits bytes. (some program inputs limits bytes).0;
       answers = λ program inputs limits bytes. (some program inputs limits bytes).1;
     }
+
+pub some_reader : Reader
+some_reader = reader_by some-answer

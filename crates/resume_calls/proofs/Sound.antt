@@ -6,8 +6,9 @@ use Rattle.gp_resume.specs.meaning.Resumed as rest
 use Rattle.call_cases.specs.Commands.{AreSound}
 use Rattle.call_cases.specs.meaning.RunCommands.{IsWhole, end_status}
 use Rattle.call_cases.proofs.RunSound.{whole_apart}
-use Rattle.resume_calls.specs.meaning.Resumption.{Reader, Resumption}
+use Rattle.resume_calls.specs.meaning.Resumption.{Resumption}
 use Rattle.resume_calls.specs.meaning.ResumeCommands.{rest_status, commands}
+use Rattle.resume_calls.proofs.HaltedCases.{resume_case}
 
 end_whole : (end : End) → IsWhole (end_status end)
 end_whole Finished = inl refl
@@ -18,11 +19,12 @@ rest_whole : (resumption : Resumption) → IsWhole (rest_status resumption)
 rest_whole resumption =
     end_whole (rest.end resumption.work.program resumption.work.inputs resumption.work.limits resumption.rows)
 
-pub commands_sound : (reader : Reader) → AreSound (commands reader)
-commands_sound reader =
+pub commands_sound : AreSound commands
+commands_sound =
     record {
       ends = rest_whole;
       apart = whole_apart;
       begins = λ resumption journal empty. tt;
       unbegun = λ resumption journal written faults empty. tt;
+      once = resume_case;
     }

@@ -1,15 +1,11 @@
 // Laws of runs that go on, each on a function with an empty body.
-ghost use Rattle.resume_calls.specs.meaning.Laws.{OneReader, JoinedTextLaw};
-ghost use Rattle.resume_calls.specs.meaning.Resumption.{Reader};
+ghost use Rattle.call_cases.specs.meaning.Laws.{HasOneCase};
+ghost use Rattle.resume_calls.specs.meaning.Laws.{JoinedTextLaw};
+ghost use Rattle.resume_calls.specs.meaning.ResumeCommands.{asking};
 
-/// A law: no two readers of logs differ, so that what is promised for each of them is promised once.
-pub fn one_reader()
-    ensures { OneReader }
-{}
-
-/// A law: there is a reader of logs, so that what is promised for each of them is promised.
-pub fn some_reader()
-    ensures { Reader }
+/// A law: each call of `resume_run` has one case.
+pub fn resume_case()
+    ensures { HasOneCase asking }
 {}
 
 /// A law: the text that a run writes when it goes on from the first bytes of its own log is the text of one thread, but

@@ -7,9 +7,8 @@ ghost use Rattle.command_line.specs.meaning.ResumeWords.{resumed_by};
 ghost use Rattle.call_cases.specs.meaning.Case.{IsCase, IsCaseOf};
 ghost use Rattle.call_cases.specs.Decided.{MayRun};
 ghost use Rattle.call_cases.specs.Refusals.{AnswersCase, AnswersNoCommand, TouchesShelf};
-ghost use Rattle.resume_calls.specs.meaning.Resumption.{Reader};
 ghost use Rattle.resume_calls.specs.meaning.ResumeCommands.{MayRead, asking};
-ghost use Rattle.resume_calls.specs.inner.Halting.{MayGoOn, resumed_in, case_of};
+ghost use Rattle.resume_calls.specs.inner.Halting.{MayGoOn, Reader, resumed_in, case_of};
 
 use crate::halted::Halted;
 use call_cases::{Reading, Refusal, read_asked, read_file};
@@ -21,7 +20,7 @@ use std::alloc::Global;
 fn read_resumed<H: Shelf>(alloc: Global, resumed: Resumed, shelf: &mut H) -> Result<Halted, Refusal>
     requires { IsWithinLimits resumed.run }
     ensures shelf { TouchesShelf MayRead (Some resumed) (H.failed shelf.old) (H.failed shelf.new) result }
-    ensures case { (reader : Reader) → IfSome (H.files shelf.old) (λ files. AnswersCase (case_of reader) (IsCaseOf (asking reader) resumed files) result) }
+    ensures case { (reader : Reader) → IfSome (H.files shelf.old) (λ files. AnswersCase (case_of reader) (IsCaseOf asking resumed files) result) }
     ensures run { IfOk result (λ halted. MayRun halted.request) }
     ensures short { IfOk result (λ halted. length halted.text ≤ MOST_FILE_BYTES) }
     ensures resumed { IfOk result (λ halted. resumed_in halted ≡ resumed) }
@@ -47,7 +46,7 @@ pub fn read_halted<H: Shelf>(
     ensures no_command { resumed_by (texts words.now) ≡ None → AnswersNoCommand result }
     ensures unread { resumed_by (texts words.now) ≡ None → shelf.new ≡ shelf.old }
     ensures shelf { TouchesShelf MayRead (resumed_by (texts words.now)) (H.failed shelf.old) (H.failed shelf.new) result }
-    ensures case { (reader : Reader) → IfSome (H.files shelf.old) (λ files. AnswersCase (case_of reader) (IsCase (asking reader) (texts words.now) files) result) }
+    ensures case { (reader : Reader) → IfSome (H.files shelf.old) (λ files. AnswersCase (case_of reader) (IsCase asking (texts words.now) files) result) }
     ensures may { IfOk result MayGoOn }
     ensures resumed { IfOk result (λ halted. resumed_by (texts words.now) ≡ Some (resumed_in halted)) }
 {

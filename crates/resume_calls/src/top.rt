@@ -6,7 +6,6 @@ ghost use Rattle.command_line.specs.meaning.ResumeWords.{resumed_by};
 ghost use Rattle.call_cases.specs.meaning.Answers.{IsEmpty, change_of};
 ghost use Rattle.call_cases.specs.Decided.{IsSound, program_in};
 ghost use Rattle.call_cases.specs.meaning.Headline.{Headline};
-ghost use Rattle.resume_calls.specs.meaning.Resumption.{Reader};
 ghost use Rattle.resume_calls.specs.meaning.ResumeCommands.{commands};
 ghost use Rattle.resume_calls.specs.inner.Resting.{EndsRest};
 
@@ -62,7 +61,7 @@ pub fn resume_run<R: Threads + Sync + AllocGlobal, H: Shelf, O: Sink, E: Sink, G
     err: &mut E,
     gate: &G,
 ) -> Outcome
-    ensures headline { (reader : Reader) → Headline (commands reader) (record {
+    ensures headline { Headline commands (record {
       words = texts words.now;
       files = H.files shelf.old;
       failed = H.failed shelf.old;

@@ -11,7 +11,7 @@ use Rattle.call_cases.specs.Commands.{IsApart, AreSound}
 use Rattle.call_cases.specs.meaning.Answers.{Change, TakesAll, TakesPart, Fails}
 use Rattle.call_cases.specs.Answers.{LineEnds, RunEndsOf, finished, StopsBy}
 use Rattle.call_cases.proofs.Headlines.{none_taken, run_of_failed, run_of_memory, run_of_whole}
-use Rattle.audit_calls.specs.meaning.Tried.{Judge}
+use Rattle.view_calls.proofs.ViewCases.{view_case}
 use Rattle.view_calls.specs.meaning.Commands.{IsShown, no_position_line, absent_line, commands}
 use Rattle.view_calls.specs.meaning.Sights.{Sight, sight_text, status_by, sight_status, absent_by, absent_of, view_of}
 
@@ -23,13 +23,14 @@ shown_apart : (status : ℕ) → IsShown status → IsApart status
 shown_apart status (inl is) = inl is
 shown_apart status (inr is) = inr (inl is)
 
-pub commands_sound : (judge : Judge) → AreSound (commands judge)
-commands_sound judge =
+pub commands_sound : AreSound commands
+commands_sound =
     record {
       ends = λ sight. absent_shown (absent_of sight);
       apart = shown_apart;
       begins = λ sight journal empty. tt;
       unbegun = λ sight journal written faults empty. tt;
+      once = view_case;
     }
 
 -- nothing is told where something is shown

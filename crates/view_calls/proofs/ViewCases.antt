@@ -1,5 +1,5 @@
--- The case of what is to be shown goes on where that of its run would begin.
-use Rattle.std.proofs.Common.{◌≡◌, ◌∙◌, ℕ, Bool, true, false, List, [], ◌∷◌, ◌++◌, length, IfSome, refl, ap, subst, nat_lt, if◌then◌else◌, arith}
+-- The case of what is to be shown goes on where that of its run would begin: with what comes of the file of the trace.
+use Rattle.std.proofs.Common.{◌≡◌, ◌∙◌, ℕ, List, [], ◌∷◌, ◌++◌, IfSome, refl, sym, ap, subst, inl, inr, arith}
 use Rattle.std.specs.List.{Contains}
 use Rattle.std.specs.declared.option.Option.{Option}
 use Rattle.std.specs.declared.option.Option.TheVariants.{None, Some}
@@ -7,197 +7,231 @@ use Rattle.std.specs.declared.result.Result.{Result}
 use Rattle.std.specs.declared.result.Result.TheVariants.{Ok, Err}
 use Rattle.std.proofs.lemmas.List.Elements.{Contains-append_left, Contains-append_right}
 use Rattle.gp_base.specs.meaning.Files.{bytes_of}
-use Rattle.gp_base.specs.declared.limits.TheConstants.{MOST_FILE_BYTES}
-use Rattle.task_ast.specs.meaning.Tree.{Name, Program}
+use Rattle.task_ast.specs.meaning.Tree.{Name}
 use Rattle.gp_audit.specs.declared.line.TraceLine.{TraceLine}
+use Rattle.gp_audit.specs.declared.verdict.Verdict.{Verdict}
+use Rattle.gp_audit.specs.declared.verdict.Verdict.TheVariants.{Lawful, Unlawful, Incomplete}
+use Rattle.gp_audit.specs.meaning.Lines.{IsTrace}
+use Rattle.gp_audit.specs.meaning.Verdicts.{LawfulLines, IsVerdict}
+use Rattle.gp_audit.proofs.Fronts.{verdict_once}
+use Rattle.call_cases.specs.declared.lines.Tool.TheVariants.{GprsView}
 use Rattle.call_cases.specs.declared.reading.Refusal.{Refusal}
 use Rattle.call_cases.specs.declared.reading.Refusal.TheVariants as refused
 use Rattle.call_cases.specs.meaning.Work.{Files, ToDo, Case, Refused, Go, after_file}
-use Rattle.call_cases.specs.meaning.InputFiles.{supplied_by, then_load}
 use Rattle.call_cases.specs.meaning.Journals.{dependence_for}
 use Rattle.call_cases.specs.meaning.Lines.{input_line}
 use Rattle.call_cases.specs.meaning.RunCommands as run
-use Rattle.call_cases.specs.meaning.Case.{IsCaseOf, no_program, of_text, names_read}
+use Rattle.call_cases.specs.meaning.Case.{IsCaseOf, names_read}
+use Rattle.call_cases.specs.meaning.Laws.{HasOneCase}
 use Rattle.call_cases.specs.Refusals.{RefusesCase, RefusesShelf, ReadsAmong}
 use Rattle.call_cases.specs.meaning.Headline.{ReadsNothing}
-use Rattle.call_cases.proofs.Answering.{refuses_map}
-use Rattle.call_cases.proofs.Further.{further_asking, further_case, further, refuses_further}
+use Rattle.call_cases.proofs.Further.{further, refuses_further, further_once}
+use Rattle.call_cases.proofs.LastFiles.{file_shifts, file_some, file_one, file_reads}
 use Rattle.call_cases.proofs.Loads.{only_one}
-use Rattle.audit_calls.specs.meaning.Tried.{Judge}
+use Rattle.call_cases.proofs.OneCase.{has_one_case}
+use Rattle.audit_calls.proofs.Readings.{Reads, one_reading}
+use Rattle.audit_calls.proofs.SomeJudge.{some_reading, some_verdict, lawful_verdict}
 use Rattle.view_calls.specs.declared.words.Viewed.{Viewed}
-use Rattle.view_calls.specs.meaning.Traces.{unlawful_in}
 use Rattle.view_calls.specs.meaning.Commands.{MayRead, of_run, the_trace, viewed_by, asking, commands}
-use Rattle.view_calls.specs.meaning.Sights.{Sight, by_lines, by_trace_rows, by_bytes, by_trace, supplied}
+use Rattle.view_calls.specs.meaning.Sights.{Sight, Sees, sees, unlawful, broken, WithTrace}
 use Rattle.view_calls.specs.inner.Answers.{AnswersLines}
 
-module _ (judge : Judge) (file : Name) (position : Option ℕ) where
-  below_lines : (program : Name) (names : List Name) (work : ToDo) (lines : List TraceLine) (unlawful : Option ℕ)
-      → after_file program (by_lines names file position work lines unlawful)
-      ≡ (by_lines (program ∷ names) file position work lines unlawful)
-  below_lines program names work lines None = refl
-  below_lines program names work lines (Some row) = refl
+-- what comes of the bytes of a trace
+module _ (file : Name) (position : Option ℕ) (work : ToDo) where
+  abbrev Comes : List Name → List ℕ → Case Sight → Type 0
+  Comes names text case = Sees file names position work text case
 
-  below_rows : (program : Name) (names : List Name) (work : ToDo) (rows : Result (List TraceLine) ℕ)
-      → after_file program (by_trace_rows judge names file position work rows)
-      ≡ (by_trace_rows judge (program ∷ names) file position work rows)
-  below_rows program names work (Ok lines) =
-      below_lines program names work lines (unlawful_in (judge.verdict_of (dependence_for work) work.faults lines))
-  below_rows program names work (Err row) = refl
+  abbrev Judged : List TraceLine → Verdict → Type 0
+  Judged lines verdict = IsVerdict (dependence_for work) work.faults lines verdict
 
-  below_long : (program : Name) (names : List Name) (work : ToDo) (long : Bool) (rows : Result (List TraceLine) ℕ)
-      → after_file program (if long then Refused 4 (names ++ file ∷ []) (input_line file 6 0)
-      else by_trace_rows judge names file position work rows)
-      ≡ (if long then Refused 4 ((program ∷ names) ++ file ∷ []) (input_line file 6 0)
-      else by_trace_rows judge (program ∷ names) file position work rows)
-  below_long program names work true rows = refl
-  below_long program names work false rows = below_rows program names work rows
+  sees_shift : (first : Name) (names : List Name) (text : List ℕ) (case : Case Sight) → Comes (first ∷ names) text case
+      → (found : Case Sight) × Comes names text found × (case ≡ after_file first found)
+  sees_shift first names text case (sees is lawful) = (_, sees is lawful, refl)
+  sees_shift first names text case (unlawful is judged) = (_, unlawful is judged, refl)
+  sees_shift first names text case (broken is) = (_, broken is, refl)
 
-  below_bytes : (program : Name) (names : List Name) (work : ToDo) (bytes : Option (List ℕ))
-      → after_file program (by_bytes judge names file position work bytes)
-      ≡ (by_bytes judge (program ∷ names) file position work bytes)
-  below_bytes program names work None = refl
-  below_bytes program names work (Some text) = below_long program names work (nat_lt MOST_FILE_BYTES (length text)) (judge.lines_of text)
+  sees_read : (names : List Name) (text : List ℕ) (case : Case Sight) → Comes names text case → names_read case ≡ names
+  sees_read names text case (sees is lawful) = refl
+  sees_read names text case (unlawful is judged) = refl
+  sees_read names text case (broken is) = refl
+
+  sees_some : (names : List Name) (text : List ℕ) → (case : Case Sight) × Comes names text case
+  sees_some names text = let found = some_reading text in go found.0 found.1
+    where
+      by_verdict : (lines : List TraceLine) (verdict : Verdict) → IsTrace text lines → Judged lines verdict → (case : Case Sight) × Comes names text case
+      by_verdict lines Lawful is judged = (_, sees is judged.0)
+      by_verdict lines (Unlawful number) is judged = (_, unlawful {row = number} is judged)
+      by_verdict lines Incomplete is judged = (_, sees is judged.0)
+
+      go : (result : Result (List TraceLine) ℕ) → Reads text result → (case : Case Sight) × Comes names text case
+      go (Ok lines) is = let found = some_verdict (dependence_for work) work.faults lines in by_verdict lines found.0 is found.1
+      go (Err row) is = (_, broken is)
+
+  -- lines that are lawful have no first one that is not
+  never_unlawful : (lines : List TraceLine) (row : ℕ) → LawfulLines (dependence_for work) work.faults lines → Judged lines (Unlawful row) → ⊥
+  never_unlawful lines row lawful judged =
+      elim (lawful_verdict (dependence_for work) work.faults lines lawful) [
+        | inl whole ↦ (let never = verdict_once (dependence_for work) work.faults lines (Unlawful row) Lawful judged whole in cc never)
+        | inr ends ↦ (let never = verdict_once (dependence_for work) work.faults lines (Unlawful row) Incomplete judged ends in cc never)
+      ]
+
+  same_lines : (text : List ℕ) (lines others : List TraceLine) → IsTrace text lines → IsTrace text others → lines ≡ others
+  same_lines text lines others is other =
+      let read = one_reading text (Ok lines) (Ok others) is other in let same : lines ≡ others = cc read in same
+
+  refused_at : (names : List Name) (row other : ℕ) → row ≡ other
+      → ◌≡◌ {A = Case Sight} (Refused 4 names (input_line file 1 row)) (Refused 4 names (input_line file 1 other))
+  refused_at names row other same = ap (λ r. Refused 4 names (input_line file 1 r)) same
+
+  sees_one : (names : List Name) (text : List ℕ) (a b : Case Sight) → Comes names text a → Comes names text b → a ≡ b
+  sees_one names text a b (sees {lines} is lawful) (sees {lines = others} is' lawful') =
+      ap (λ ls. Go names (record { work = work; position = position; trace = Some ls })) (same_lines text lines others is is')
+  sees_one names text a b (sees {lines} is lawful) (unlawful {lines = others} {row} is' judged) =
+      absurd (never_unlawful lines row lawful (subst (λ ls. Judged ls (Unlawful row)) (sym (same_lines text lines others is is')) judged))
+  sees_one names text a b (sees {lines} is lawful) (broken {row} is') =
+      let never = one_reading text (Ok lines) (Err row) is is' in absurd (cc never)
+  sees_one names text a b (unlawful {lines = others} {row} is' judged) (sees {lines} is lawful) =
+      absurd (never_unlawful lines row lawful (subst (λ ls. Judged ls (Unlawful row)) (sym (same_lines text lines others is is')) judged))
+  sees_one names text a b (unlawful {lines} {row} is judged) (unlawful {lines = others} {row = other} is' judged') =
+      let once =
+      verdict_once (dependence_for work) work.faults lines (Unlawful row) (Unlawful other) judged
+      (subst (λ ls. Judged ls (Unlawful other)) (sym (same_lines text lines others is is')) judged') in
+      let same : row ≡ other = cc once in
+      refused_at names row other same
+  sees_one names text a b (unlawful {lines} {row} is judged) (broken {row = other} is') =
+      let never = one_reading text (Ok lines) (Err other) is is' in absurd (cc never)
+  sees_one names text a b (broken {row} is) (sees {lines} is' lawful) =
+      let never = one_reading text (Ok lines) (Err row) is' is in absurd (cc never)
+  sees_one names text a b (broken {row} is) (unlawful {lines} is' judged) =
+      let never = one_reading text (Ok lines) (Err row) is' is in absurd (cc never)
+  sees_one names text a b (broken {row} is) (broken {row = other} is') =
+      let read = one_reading text (Err row) (Err other) is is' in
+      let same : row ≡ other = cc read in
+      refused_at names row other same
+
+-- what comes of the trace, where words name one
+module _ (files : Files) (position : Option ℕ) (work : ToDo) where
+  with_shifts : (trace : Option Name) (first : Name) (names : List Name) (case : Case Sight)
+      → WithTrace trace files position (first ∷ names) work case
+      → (found : Case Sight) × WithTrace trace files position names work found × (case ≡ after_file first found)
+  with_shifts None first names case is = (Go names (record { work = work; position = position; trace = None }), refl, is)
+  with_shifts (Some file) first names case is =
+      file_shifts file (Comes file position work) (sees_shift file position work) first names (bytes_of files file) case is
+
+  with_some : (trace : Option Name) (names : List Name) → (case : Case Sight) × WithTrace trace files position names work case
+  with_some None names = (Go names (record { work = work; position = position; trace = None }), refl)
+  with_some (Some file) names = file_some file (Comes file position work) (sees_some file position work) names (bytes_of files file)
+
+  with_one : (trace : Option Name) (names : List Name) (a b : Case Sight) → WithTrace trace files position names work a
+      → WithTrace trace files position names work b → a ≡ b
+  with_one None names a b is other = is ∙ sym other
+  with_one (Some file) names a b is other =
+      file_one file (Comes file position work) (sees_one file position work) names (bytes_of files file) a b is other
 
   -- what was read before the trace, and the trace, were read
-  keeps_lines : (names : List Name) (work : ToDo) (lines : List TraceLine) (unlawful : Option ℕ) (name : Name)
-      → Contains (names ++ file ∷ []) name
-      → Contains (names_read ((by_lines names file position work lines unlawful))) name
-  keeps_lines names work lines None name is = is
-  keeps_lines names work lines (Some row) name is = is
+  trace_reads_all : (file : Name) (names : List Name) (case : Case Sight) → WithTrace (Some file) files position names work case → (name : Name)
+      → Contains (names ++ file ∷ []) name → Contains (names_read case) name
+  trace_reads_all file names case is name has =
+      file_reads file (Comes file position work) (sees_read file position work) names (bytes_of files file) case is name has
 
-  keeps_rows : (names : List Name) (work : ToDo) (rows : Result (List TraceLine) ℕ) (name : Name) → Contains (names ++ file ∷ []) name
-      → Contains (names_read ((by_trace_rows judge names file position work rows))) name
-  keeps_rows names work (Ok lines) name is =
-      keeps_lines names work lines (unlawful_in (judge.verdict_of (dependence_for work) work.faults lines)) name is
-  keeps_rows names work (Err row) name is = is
+  with_reads : (trace : Option Name) (names : List Name) (case : Case Sight) → WithTrace trace files position names work case → (name : Name)
+      → Contains names name → Contains (names_read case) name
+  with_reads None names case is name has = subst (λ c. Contains (names_read c) name) (sym is) has
+  with_reads (Some file) names case is name has = trace_reads_all file names case is name (Contains-append_left names (file ∷ []) name has)
 
-  keeps_long : (names : List Name) (work : ToDo) (long : Bool) (rows : Result (List TraceLine) ℕ) (name : Name)
-      → Contains (names ++ file ∷ []) name
-      → Contains (names_read ((if long then Refused 4 (names ++ file ∷ []) (input_line file 6 0)
-      else by_trace_rows judge names file position work rows))) name
-  keeps_long names work true rows name is = is
-  keeps_long names work false rows name is = keeps_rows names work rows name is
+abbrev Next : Viewed → Files → List Name → ToDo → Case Sight → Type 0
+Next viewed files names work case = WithTrace viewed.trace files viewed.position names work case
 
-  keeps_bytes : (names : List Name) (work : ToDo) (bytes : Option (List ℕ)) (name : Name) → Contains (names ++ file ∷ []) name
-      → Contains (names_read ((by_bytes judge names file position work bytes))) name
-  keeps_bytes names work None name is = is
-  keeps_bytes names work (Some text) name is = keeps_long names work (nat_lt MOST_FILE_BYTES (length text)) (judge.lines_of text) name is
+pub view_case : HasOneCase asking
+view_case =
+    has_one_case asking
+    (further_once GprsView (λ (v : Viewed). v.run) viewed_by Next (λ viewed files names work. with_some files viewed.position work viewed.trace names)
+    (λ viewed files names work a b is other. with_one files viewed.position work viewed.trace names a b is other))
 
-module _ (judge : Judge) (viewed : Viewed) (files : Files) where
-  abbrev traced : (trace : Option Name) → List Name → ToDo → Case Sight
-  traced trace names work = (by_trace judge trace files names viewed.position work)
+module _ (viewed : Viewed) (files : Files) where
+  next_shifts : (first : Name) (names : List Name) (work : ToDo) (case : Case Sight) → Next viewed files (first ∷ names) work case
+      → (found : Case Sight) × Next viewed files names work found × (case ≡ after_file first found)
+  next_shifts first names work case is = with_shifts files viewed.position work viewed.trace first names case is
 
-  below_trace : (trace : Option Name) (program : Name) (names : List Name) (work : ToDo)
-      → after_file program (by_trace judge trace files names viewed.position work) ≡ traced trace (program ∷ names) work
-  below_trace None program names work = refl
-  below_trace (Some file) program names work = below_bytes judge file viewed.position program names work (bytes_of files file)
-
-  keeps_trace : (trace : Option Name) (names : List Name) (work : ToDo) (name : Name) → Contains names name
-      → Contains (names_read (traced trace names work)) name
-  keeps_trace None names work name is = is
-  keeps_trace (Some file) names work name is =
-      keeps_bytes judge file viewed.position names work (bytes_of files file) name (Contains-append_left names (file ∷ []) name is)
-
-  abbrev after : List Name → ToDo → Case Sight
-  after names work = traced viewed.trace names work
-
-  goes_on : (program : Program)
-      → after_file viewed.run.program (supplied judge viewed program files)
-      ≡ further_case after (after_file viewed.run.program (supplied_by viewed.run program files))
-  goes_on program = go (supplied_by viewed.run program files)
-    where
-      go : (given : Case ToDo)
-          → after_file viewed.run.program (then_load given (λ names work. by_trace judge viewed.trace files names viewed.position work))
-          ≡ further_case after (after_file viewed.run.program given)
-      go (Go names work) = below_trace viewed.trace viewed.run.program names work
-      go (Refused status names line) = refl
-
-  to_view : (case : Case Sight) → IsCaseOf (further_asking run.asking (λ (v : Viewed). v.run) viewed_by (supplied judge)) viewed files case
-      → IsCaseOf (asking judge) viewed files case
-  to_view case (no_program absent) = no_program absent
-  to_view case (of_text meaning there means) = of_text meaning there means
-
-  case_after : (names : List Name) (work : ToDo) → IsCaseOf run.asking viewed.run files (Go names work)
-      → IsCaseOf (asking judge) viewed files (after names work)
-  case_after names work is =
-      to_view (after names work) (further run.asking (λ (v : Viewed). v.run) viewed_by (supplied judge) viewed files after goes_on
-      (Go names work) is)
+  case_after : (names : List Name) (work : ToDo) (case : Case Sight) → IsCaseOf run.asking viewed.run files (Go names work)
+      → Next viewed files names work case → IsCaseOf asking viewed files case
+  case_after names work case is next =
+      further GprsView (λ (v : Viewed). v.run) viewed_by Next viewed files next_shifts (Go names work) case is next
 
   -- what the run is refused for, this is
   run_refused : (refusal : Refusal) → RefusesCase (IsCaseOf run.asking viewed.run files) refusal
-      → RefusesCase (IsCaseOf (asking judge) viewed files) refusal
+      → RefusesCase (IsCaseOf asking viewed files) refusal
   run_refused refusal is =
-      refuses_map (IsCaseOf (further_asking run.asking (λ (v : Viewed). v.run) viewed_by (supplied judge)) viewed files)
-      (IsCaseOf (asking judge) viewed files) to_view refusal
-      (refuses_further run.asking (λ (v : Viewed). v.run) viewed_by (supplied judge) viewed files after goes_on
-      (keeps_trace viewed.trace) refusal is)
+      refuses_further GprsView (λ (v : Viewed). v.run) viewed_by Next viewed files next_shifts
+      (λ names work. with_some files viewed.position work viewed.trace names)
+      (λ names work case next name has. with_reads files viewed.position work viewed.trace names case next name has) refusal is
 
-  case_with : (trace : Option Name) → viewed.trace ≡ trace → (names : List Name) (work : ToDo)
-      → IsCaseOf run.asking viewed.run files (Go names work)
-      → IsCaseOf (asking judge) viewed files (traced trace names work)
-  case_with trace same names work is =
-      subst (λ t. IsCaseOf (asking judge) viewed files (traced t names work)) same (case_after names work is)
+  case_with : (trace : Option Name) → viewed.trace ≡ trace → (names : List Name) (work : ToDo) (case : Case Sight)
+      → IsCaseOf run.asking viewed.run files (Go names work) → WithTrace trace files viewed.position names work case
+      → IsCaseOf asking viewed files case
+  case_with trace same names work case is next =
+      case_after names work case is (subst (λ t. WithTrace t files viewed.position names work case) (sym same) next)
 
   module _ (file : Name) (same : viewed.trace ≡ Some file) (names : List Name) (work : ToDo)
       (is : IsCaseOf run.asking viewed.run files (Go names work)) where
-    lines_case : (lines : List TraceLine) → AnswersLines judge names file viewed.position work (bytes_of files file) (Ok lines)
-        → IsCaseOf (asking judge) viewed files (Go (names ++ file ∷ [])
-        (record { work = work; position = viewed.position; trace = Some lines }))
+    lines_case : (lines : List TraceLine) → AnswersLines names file viewed.position work (bytes_of files file) (Ok lines)
+        → IsCaseOf asking viewed files (Go (names ++ file ∷ []) (record { work = work; position = viewed.position; trace = Some lines }))
     lines_case lines answers =
-        subst (λ given. IsCaseOf (asking judge) viewed files (given)) answers (case_with (Some file) same names work is)
+        case_with (Some file) same names work (Go (names ++ file ∷ []) (record { work = work; position = viewed.position; trace = Some lines }))
+        is answers
 
-    trace_refused : (refusal : Refusal) → AnswersLines judge names file viewed.position work (bytes_of files file) (Err refusal)
-        → RefusesCase (IsCaseOf (asking judge) viewed files) refusal
+    trace_refused : (refusal : Refusal) → AnswersLines names file viewed.position work (bytes_of files file) (Err refusal)
+        → RefusesCase (IsCaseOf asking viewed files) refusal
     trace_refused refused.Usage answers = absurd answers
     trace_refused (refused.BadProgram line) answers = absurd answers
     trace_refused (refused.BadInput line) answers = (
       names ++ file ∷ [],
-      subst (λ given. IsCaseOf (asking judge) viewed files (given)) answers
-          (case_with (Some file) same names work is),
+      case_with (Some file) same names work (Refused 4 (names ++ file ∷ []) line) is answers,
     )
-    trace_refused (refused.ReadFault name) answers = (
-      traced (Some file) names work,
-      case_with (Some file) same names work is,
-      subst (λ told. Contains (names_read (traced (Some file) names work)) told) answers
-          (keeps_bytes judge file viewed.position names work (bytes_of files file) file
-          (Contains-append_right names (file ∷ []) file (0, omega arith, refl))),
-    )
+    trace_refused (refused.ReadFault name) answers =
+        let found = with_some files viewed.position work (Some file) names in (
+          found.0,
+          case_with (Some file) same names work found.0 is found.1,
+          subst (λ told. Contains (names_read found.0) told) answers
+              (trace_reads_all files viewed.position work file names found.0 found.1 file
+              (Contains-append_right names (file ∷ []) file (0, omega arith, refl))),
+        )
     trace_refused refused.OutOfMemory answers = tt
 
 -- the same where the files are told
-module _ (judge : Judge) (viewed : Viewed) where
+module _ (viewed : Viewed) where
   pub run_refuses : (files : Option Files) (refusal : Refusal)
       → IfSome files (λ told. RefusesCase (IsCaseOf run.asking viewed.run told) refusal)
-      → IfSome files (λ told. RefusesCase (IsCaseOf (asking judge) viewed told) refusal)
+      → IfSome files (λ told. RefusesCase (IsCaseOf asking viewed told) refusal)
   run_refuses None refusal is = tt
-  run_refuses (Some files) refusal is = run_refused judge viewed files refusal is
+  run_refuses (Some files) refusal is = run_refused viewed files refusal is
 
   pub run_viewed : viewed.trace ≡ None → (files : Option Files) (names : List Name) (work : ToDo)
       → IfSome files (λ told. IsCaseOf run.asking viewed.run told (Go names work))
-      → IfSome files (λ told. IsCaseOf (asking judge) viewed told
+      → IfSome files (λ told. IsCaseOf asking viewed told
       (Go names (record { work = work; position = viewed.position; trace = None })))
   run_viewed same None names work is = tt
-  run_viewed same (Some files) names work is = case_with judge viewed files None same names work is
+  run_viewed same (Some files) names work is = case_with viewed files None same names work (Go names (record { work = work; position = viewed.position; trace = None })) is refl
 
   module _ (file : Name) (same : viewed.trace ≡ Some file) (names : List Name) (work : ToDo) where
     pub lines_viewed : (files known : Option Files) (lines : List TraceLine) → known ≡ files
         → IfSome files (λ told. IsCaseOf run.asking viewed.run told (Go names work))
-        → IfSome known (λ told. AnswersLines judge names file viewed.position work (bytes_of told file) (Ok lines))
-        → IfSome files (λ told. IsCaseOf (asking judge) viewed told
+        → IfSome known (λ told. AnswersLines names file viewed.position work (bytes_of told file) (Ok lines))
+        → IfSome files (λ told. IsCaseOf asking viewed told
         (Go (names ++ file ∷ []) (record { work = work; position = viewed.position; trace = Some lines })))
     lines_viewed None known lines kept is answers = tt
     lines_viewed (Some files) known lines kept is answers =
-        lines_case judge viewed files file same names work is lines
-        (subst (λ k. IfSome k (λ told. AnswersLines judge names file viewed.position work (bytes_of told file) (Ok lines))) kept answers)
+        lines_case viewed files file same names work is lines
+        (subst (λ k. IfSome k (λ told. AnswersLines names file viewed.position work (bytes_of told file) (Ok lines))) kept answers)
 
     pub trace_refuses : (files known : Option Files) (refusal : Refusal) → known ≡ files
         → IfSome files (λ told. IsCaseOf run.asking viewed.run told (Go names work))
-        → IfSome known (λ told. AnswersLines judge names file viewed.position work (bytes_of told file) (Err refusal))
-        → IfSome files (λ told. RefusesCase (IsCaseOf (asking judge) viewed told) refusal)
+        → IfSome known (λ told. AnswersLines names file viewed.position work (bytes_of told file) (Err refusal))
+        → IfSome files (λ told. RefusesCase (IsCaseOf asking viewed told) refusal)
     trace_refuses None known refusal kept is answers = tt
     trace_refuses (Some files) known refusal kept is answers =
-        trace_refused judge viewed files file same names work is refusal
-        (subst (λ k. IfSome k (λ told. AnswersLines judge names file viewed.position work (bytes_of told file) (Err refusal))) kept answers)
+        trace_refused viewed files file same names work is refusal
+        (subst (λ k. IfSome k (λ told. AnswersLines names file viewed.position work (bytes_of told file) (Err refusal))) kept answers)
 
 -- what the shelf tells of a refusal
 module _ (viewed : Viewed) (before now : List Name) where
@@ -219,10 +253,9 @@ module _ (viewed : Viewed) (before now : List Name) where
   trace_reads file same T refused.OutOfMemory is = tt
 
 -- words for which nothing is read are those of no command
-pub nothing_read : {P : Type 0} (judge : Judge) (words : List (List ℕ)) → (viewed_by words ≡ None → P)
-    → ReadsNothing (commands judge) (viewed_by words) → P
-nothing_read {P} judge words to = go (viewed_by words) to
+pub nothing_read : {P : Type 0} (words : List (List ℕ)) → (viewed_by words ≡ None → P) → ReadsNothing commands (viewed_by words) → P
+nothing_read {P} words to = go (viewed_by words) to
   where
-    go : (asked : Option Viewed) → (asked ≡ None → P) → ReadsNothing (commands judge) asked → P
+    go : (asked : Option Viewed) → (asked ≡ None → P) → ReadsNothing commands asked → P
     go None holds nothing = holds refl
     go (Some viewed) holds makes = cc makes

@@ -1,3 +1,4 @@
 pub mod Sights
+pub mod Traces
 pub mod inner
 pub mod meaning

@@ -2,6 +2,7 @@
 //! handed in.
 #![tactic(auto)]
 
+pub mod laws;
 mod reading;
 mod top;
 mod words;

@@ -1,5 +1,5 @@
 // What a call is to show, from its words and the shelf.
-ghost use Rattle.std.specs.Prelude.{◌≡◌, ◌<◌, ◌≤◌, ℕ, List, [], ◌∷◌, length, Option, Some, None, Ok, IfOk, IfSome};
+ghost use Rattle.std.specs.Prelude.{◌≡◌, ◌<◌, ◌≤◌, ℕ, List, [], ◌∷◌, length, Option, Some, None, IfOk, IfSome};
 ghost use Rattle.gp_base.specs.meaning.Files.{bytes_of};
 ghost use Rattle.gp_base.specs.declared.limits.TheConstants.{MOST_FILE_BYTES};
 ghost use Rattle.task_ast.specs.meaning.Tree.{Name};
@@ -9,8 +9,10 @@ ghost use Rattle.call_cases.specs.meaning.Case.{IsCase, IsCaseOf};
 ghost use Rattle.call_cases.specs.Decided.{work_of};
 ghost use Rattle.call_cases.specs.meaning.Journals.{dependence_for};
 ghost use Rattle.call_cases.specs.Refusals.{AnswersCase, AnswersNoCommand, ReadsAmong, TouchesShelf};
-ghost use Rattle.audit_calls.specs.meaning.Tried.{Judge};
-ghost use Rattle.view_calls.specs.meaning.Traces.{unlawful_in};
+ghost use Rattle.gp_audit.specs.declared.verdict.Verdict.{Verdict as VerdictGiven};
+ghost use Rattle.gp_audit.specs.meaning.Lines.{IsTrace};
+ghost use Rattle.gp_audit.specs.meaning.Verdicts.{IsVerdict};
+ghost use Rattle.view_calls.specs.Traces.{unlawful_in};
 ghost use Rattle.view_calls.specs.meaning.Commands.{viewed_by, MayRead, asking};
 ghost use Rattle.view_calls.specs.Sights.{case_of, viewed_in};
 ghost use Rattle.view_calls.specs.inner.Answers.{AnswersLines};
@@ -56,8 +58,8 @@ fn first_unlawful(
 ) -> Result<Option<u32>, AllocError>
     requires within { IsWithinLimits request.now.asked }
     requires few { length lines.now < 4294967295 }
-    ensures { IfOk result (λ number. (judge : Judge) → number
-        ≡ unlawful_in (judge.verdict_of (dependence_for (work_of request.now)) (work_of request.now).faults lines.now)) }
+    ensures { IfOk result (λ number. (verdict : VerdictGiven) × IsVerdict (dependence_for (work_of request.now)) (work_of request.now).faults lines.now verdict
+        × (number ≡ unlawful_in verdict)) }
 {
     let ran = run_plain(
         alloc,
@@ -78,8 +80,8 @@ fn lawful_lines(
 ) -> Result<Seq<TraceLine>, Refusal>
     requires within { IsWithinLimits request.now.asked }
     requires few { length lines < 4294967295 }
-    ensures told { (judge : Judge) (names : List Name) (position : Option ℕ) (text : List ℕ) → length text ≤ MOST_FILE_BYTES
-        → judge.lines_of text ≡ Ok lines → AnswersLines judge names name.now position (work_of request.now) (Some text) result }
+    ensures told { (names : List Name) (position : Option ℕ) (text : List ℕ) → length text ≤ MOST_FILE_BYTES
+        → IsTrace text lines → AnswersLines names name.now position (work_of request.now) (Some text) result }
     ensures unread { (names failed : List Name) → ReadsAmong names failed failed result }
 {
     match first_unlawful(alloc, request, &lines) {
@@ -98,8 +100,8 @@ fn lines_in(
 ) -> Result<Seq<TraceLine>, Refusal>
     requires within { IsWithinLimits request.now.asked }
     requires short { length text.now ≤ MOST_FILE_BYTES }
-    ensures told { (judge : Judge) (names : List Name) (position : Option ℕ) →
-        AnswersLines judge names name.now position (work_of request.now) (Some text.now) result }
+    ensures told { (names : List Name) (position : Option ℕ) →
+        AnswersLines names name.now position (work_of request.now) (Some text.now) result }
     ensures unread { (names failed : List Name) → ReadsAmong names failed failed result }
 {
     match read_trace(alloc, text) {
@@ -118,8 +120,8 @@ fn trace_lines<H: Shelf>(
 ) -> Result<Seq<TraceLine>, Refusal>
     requires { IsWithinLimits request.now.asked }
     ensures failed { ReadsAmong (name.now ∷ []) (H.failed shelf.old) (H.failed shelf.new) result }
-    ensures told { (judge : Judge) (names : List Name) (position : Option ℕ) → IfSome (H.files shelf.old) (λ files.
-        AnswersLines judge names name.now position (work_of request.now) (bytes_of files name.now) result) }
+    ensures told { (names : List Name) (position : Option ℕ) → IfSome (H.files shelf.old) (λ files.
+        AnswersLines names name.now position (work_of request.now) (bytes_of files name.now) result) }
 {
     let text = match read_file(alloc, shelf, name) {
         Ok(text) => text,
@@ -133,7 +135,7 @@ fn trace_lines<H: Shelf>(
 fn read_viewed<H: Shelf>(alloc: Global, viewed: Viewed, shelf: &mut H) -> Result<Viewing, Refusal>
     requires { IsWithinLimits viewed.run }
     ensures shelf { TouchesShelf MayRead (Some viewed) (H.failed shelf.old) (H.failed shelf.new) result }
-    ensures case { (judge : Judge) → IfSome (H.files shelf.old) (λ files. AnswersCase case_of (IsCaseOf (asking judge) viewed files) result) }
+    ensures case { IfSome (H.files shelf.old) (λ files. AnswersCase case_of (IsCaseOf asking viewed files) result) }
     ensures viewed { IfOk result (λ viewing. viewed_in viewing ≡ viewed) }
     ensures within { IfOk result (λ viewing. IsWithinLimits viewing.request.asked) }
 {
@@ -176,7 +178,7 @@ pub fn read_view<H: Shelf>(
     ensures no_command { viewed_by (texts words.now) ≡ None → AnswersNoCommand result }
     ensures unread { viewed_by (texts words.now) ≡ None → shelf.new ≡ shelf.old }
     ensures shelf { TouchesShelf MayRead (viewed_by (texts words.now)) (H.failed shelf.old) (H.failed shelf.new) result }
-    ensures case { (judge : Judge) → IfSome (H.files shelf.old) (λ files. AnswersCase case_of (IsCase (asking judge) (texts words.now) files) result) }
+    ensures case { IfSome (H.files shelf.old) (λ files. AnswersCase case_of (IsCase asking (texts words.now) files) result) }
     ensures viewed { IfOk result (λ viewing. viewed_by (texts words.now) ≡ Some (viewed_in viewing)) }
     ensures within { IfOk result (λ viewing. IsWithinLimits viewing.request.asked) }
 {

@@ -9,7 +9,6 @@ ghost use Rattle.call_cases.specs.meaning.Headline.{Headline};
 ghost use Rattle.call_cases.specs.declared.lines.Tool.TheVariants.{GprsView};
 ghost use Rattle.call_cases.specs.Answers.{LineEnds, RunEndsOf};
 ghost use Rattle.call_cases.specs.Decided.{work_of};
-ghost use Rattle.audit_calls.specs.meaning.Tried.{Judge};
 ghost use Rattle.view_calls.specs.meaning.Commands.{viewed_by, no_position_line, absent_line, commands};
 ghost use Rattle.view_calls.specs.meaning.Sights.{text_for, view_of, sight_text, absent_of, sight_status};
 ghost use Rattle.view_calls.specs.Sights.{lines_in, sight_of};
@@ -137,7 +136,7 @@ pub fn view_run<H: Shelf, O: Sink, E: Sink>(
     out: &mut O,
     err: &mut E,
 ) -> u8
-    ensures headline { (judge : Judge) → Headline (commands judge) (record {
+    ensures headline { Headline commands (record {
       words = texts words.now;
       files = H.files shelf.old;
       failed = H.failed shelf.old;

@@ -1,26 +1,16 @@
--- Laws of audits.
+-- A law of audits.
 use Rattle.std.specs.Prelude.{◌≡◌, ◌≤◌, ℕ, Bool, true, List, Some, length, codes}
 use Rattle.gp_base.specs.meaning.Files.{bytes_of}
-use Rattle.gp_base.specs.declared.fault.Fault.{Fault}
 use Rattle.gp_base.specs.declared.limits.TheConstants.{MOST_FILE_BYTES}
 use Rattle.task_ast.specs.meaning.Tree.{Name}
-use Rattle.dependence.specs.meaning.Restarts.{Dependence}
 use Rattle.restart_log.specs.meaning.Trace.{trace_text}
-use Rattle.gp_audit.specs.declared.line.TraceLine.{TraceLine}
+use Rattle.gp_audit.specs.declared.verdict.Verdict.{Verdict}
 use Rattle.command_line.specs.declared.audit_words.Audited.{Audited}
 use Rattle.call_cases.specs.meaning.Work.{Files, ToDo, is_journalled, Case, Go}
 use Rattle.call_cases.specs.meaning.Case.{IsCaseOf, IsCase, status_of, text_of}
 use Rattle.call_cases.specs.meaning.RunCommands as run
 use Rattle.call_cases.specs.meaning.Headline.{Call, Headline}
-use Rattle.audit_calls.specs.meaning.Tried.{Judge, Tried}
 use Rattle.audit_calls.specs.meaning.AuditCommands.{asking, commands}
-
--- no two judges differ
-abbrev pub OneJudge : Type 0
-OneJudge =
-    (judge other : Judge) → ((bytes : List ℕ) → judge.lines_of bytes ≡ other.lines_of bytes)
-    × ((dependence : Dependence) (faults : List Fault) (lines : List TraceLine)
-    → judge.verdict_of dependence faults lines ≡ other.verdict_of dependence faults lines)
 
 -- the same program is run, from the same inputs, with the same faults, under the same limits
 pub record IsSameRun (work other : ToDo) : Type 0 where
@@ -33,12 +23,12 @@ pub record IsSameRun (work other : ToDo) : Type 0 where
 -- of that journal stands in a file, an audit of that file as the trace of the same run comes to the status 0 and the text `lawful`.
 abbrev pub TraceLaw : Type 0
 TraceLaw =
-    (judge : Judge) (waits : Bool) (call : Call) (files : Files) (names : List Name) (work : ToDo)
+    (waits : Bool) (call : Call) (files : Files) (names : List Name) (work : ToDo)
     → Headline (run.commands_among waits) call → call.files ≡ Some files
     → IsCase (run.asking_among waits) call.words files (Go names work)
     → is_journalled work.command ≡ true → run.IsWhole call.status
     → length (trace_text call.journal) ≤ MOST_FILE_BYTES
-    → (audited : Audited) (files' : Files) (names' : List Name) (work' : ToDo) (case : Case Tried)
+    → (audited : Audited) (files' : Files) (names' : List Name) (work' : ToDo) (case : Case Verdict)
     → IsCaseOf run.asking audited.run files' (Go names' work') → IsSameRun work work'
-    → bytes_of files' audited.trace ≡ Some (trace_text call.journal) → IsCaseOf (asking judge) audited files' case
-    → (status_of (commands judge) case ≡ 0) × (text_of (commands judge) case ≡ codes "lawful\n")
+    → bytes_of files' audited.trace ≡ Some (trace_text call.journal) → IsCaseOf asking audited files' case
+    → (status_of commands case ≡ 0) × (text_of commands case ≡ codes "lawful\n")

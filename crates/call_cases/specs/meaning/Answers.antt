@@ -1,5 +1,5 @@
 -- How the answer of a call, and what it wrote, stand to its case.
-use Rattle.std.specs.Prelude.{◌≡◌, ◌⊎◌, ◌++◌, ℕ, ◌<◌, List, [], Option, length, take}
+use Rattle.std.specs.Prelude.{◌≡◌, ◌⊎◌, ℕ, ◌<◌, List, [], Option, length}
 use Rattle.std.specs.Io.KnownBytes.{Appends, Keeps}
 use Rattle.gp_base.specs.meaning.Sinks.{Rose, AppendsPrefix}
 use Rattle.gp_base.specs.declared.journal.Journal.{Journal}
@@ -58,11 +58,3 @@ pub data Yields (due : ℕ) (shelf_failed sink_failed : Type 0) : ℕ → Type 0
 -- the line of status 1 or of status 8
 abbrev pub IsStopLine : Tool → List ℕ → Type 0
 IsStopLine tool line = (line ≡ tool_line tool out_of_memory_line) ⊎ (line ≡ tool_line tool write_fault_line)
-
--- it took a prefix of what comes first, and then a prefix of such a line
-pub record TakesStop (tool : Tool) (begun : List ℕ) (change : Change) : Type 0 where
-  pub first : ℕ
-  pub stop : List ℕ
-  pub is_stop : IsStopLine tool stop
-  pub second : ℕ
-  pub taken : TakesAll change (take first begun ++ take second stop)

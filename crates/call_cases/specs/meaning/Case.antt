@@ -14,20 +14,20 @@ use Rattle.call_cases.specs.meaning.Lines.{tool_line, usage_line, lex_line, pars
 
 module _ {A T : Type 0} (asking : Asking A T) (files : Files) (asked : A) where
   -- the case of a text, by what it means: a program is refused with the line of its first fault, or the files beside it are read
-  abbrev pub program_case : Program → Option (CheckKind × ℕ) → Case T
-  program_case program (Some fault) = Refused 3 (asking.program asked ∷ []) (check_line fault.0 fault.1)
-  program_case program None = after_file (asking.program asked) (asking.supplied asked program files)
+  abbrev pub IsCheckedCase : Program → Option (CheckKind × ℕ) → Case T → Type 0
+  IsCheckedCase program (Some fault) case = case ≡ Refused 3 (asking.program asked ∷ []) (check_line fault.0 fault.1)
+  IsCheckedCase program None case = (given : Case T) × asking.supplies asked program files given × (case ≡ after_file (asking.program asked) given)
 
-  abbrev pub meant_case : Meaning → Case T
-  meant_case (LexFails fault) = Refused 3 (asking.program asked ∷ []) (lex_line fault)
-  meant_case (ParseFails fault) = Refused 3 (asking.program asked ∷ []) (parse_line fault)
-  meant_case (Stands program) = program_case program (check_fault program)
+  abbrev pub IsMeantCase : Meaning → Case T → Type 0
+  IsMeantCase (LexFails fault) case = case ≡ Refused 3 (asking.program asked ∷ []) (lex_line fault)
+  IsMeantCase (ParseFails fault) case = case ≡ Refused 3 (asking.program asked ∷ []) (parse_line fault)
+  IsMeantCase (Stands program) case = IsCheckedCase program (check_fault program) case
 
 -- the case of what is asked, over these files
 pub data IsCaseOf {A T : Type 0} (asking : Asking A T) (asked : A) (files : Files) : Case T → Type 0 where
   no_program : bytes_of files (asking.program asked) ≡ None → IsCaseOf asking asked files (absent_case [] (asking.program asked))
-  of_text : {text : List ℕ} (meaning : Meaning) → bytes_of files (asking.program asked) ≡ Some text → Means text meaning
-      → IsCaseOf asking asked files (meant_case asking files asked meaning)
+  of_text : {text : List ℕ} {case : Case T} (meaning : Meaning) → bytes_of files (asking.program asked) ≡ Some text → Means text meaning
+      → IsMeantCase asking files asked meaning case → IsCaseOf asking asked files case
 
 -- the case of a call with these words, where the shelf has these files
 pub data IsCase {A T : Type 0} (asking : Asking A T) (words : List (List ℕ)) (files : Files) : Case T → Type 0 where

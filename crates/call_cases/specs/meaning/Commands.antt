@@ -9,7 +9,7 @@ use Rattle.call_cases.specs.meaning.Work.{Files, Case}
 use Rattle.call_cases.specs.meaning.Answers.{Change}
 
 -- what words ask for, and what that comes to by the files
-pub record Asking (A T : Type 0) : Type 0 where
+pub record Asking (A T : Type 0) : Type 1 where
   -- the program whose words they are, which its lines on the error stream name
   pub tool : Tool
   -- what words ask for, where they are those of a command
@@ -19,7 +19,7 @@ pub record Asking (A T : Type 0) : Type 0 where
   -- the files that it is done over, where the shelf has these
   pub files : A → Files → Files
   -- what is to be done with an accepted program, by the files beside it
-  pub supplied : A → Program → Files → Case T
+  pub supplies : A → Program → Files → Case T → Type 0
 
 -- a log that the error stream takes while a run goes on, a row for each position that retires: the whole log of what is
 -- to be done, and what of it was taken where this is the journal of the run

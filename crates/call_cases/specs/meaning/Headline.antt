@@ -8,7 +8,7 @@ use Rattle.call_cases.specs.meaning.Work.{Files, Case}
 use Rattle.call_cases.specs.meaning.Commands.{Asking, Commands, MayLog, Unlogged, Logged}
 use Rattle.call_cases.specs.meaning.Case.{IsCase, ForCase, ForRun, HasWork, status_of, text_of, due_of, names_read}
 use Rattle.call_cases.specs.meaning.Lines.{tool_line, read_fault_line, write_fault_line}
-use Rattle.call_cases.specs.meaning.Answers.{Change, TakesAll, TakesPart, TakesNothing, IsUntouched, Fails, Grew, Yields, TakesStop, IsEmpty}
+use Rattle.call_cases.specs.meaning.Answers.{Change, TakesAll, TakesPart, TakesNothing, IsUntouched, Fails, Grew, Yields, IsStopLine, IsEmpty}
 
 -- a call: what it was given, and what it left
 pub record Call : Type 0 where
@@ -33,14 +33,12 @@ IsRefusal status = HasCaseLine status ⊎ (status ≡ 7)
 abbrev pub IsStop : ℕ → Type 0
 IsStop status = (status ≡ 1) ⊎ (status ≡ 8)
 
--- what the error stream is to take for the case, or, where a read failed, the line of a file that it reads
-abbrev pub IsDue : {T : Type 0} → Tool → (grew : Type 0) → Case T → (error : List ℕ) → List ℕ → Type 0
-IsDue tool grew case error due =
-    (due ≡ due_of tool case error) ⊎ grew × (name : Name) × Contains (names_read case) name × (due ≡ tool_line tool (read_fault_line name))
-
--- the error stream took a prefix of what is due, and then a prefix of the line that tells the stop
-abbrev pub TakesStopLines : Tool → (is_due : List ℕ → Type 0) → Change → Type 0
-TakesStopLines tool is_due err = (due : List ℕ) × is_due due × TakesStop tool due err
+-- The error stream took a prefix of one line alone: of that of the stop, of what is due for the case, as this text at the end of what is done, or,
+-- where a read failed, of the line of a file that the case reads.
+abbrev pub TakesOneLine : {A T : Type 0} → Asking A T → Call → Case T → (error : List ℕ) → Type 0
+TakesOneLine asking call case error =
+    (line : List ℕ) × (IsStopLine asking.tool line ⊎ (line ≡ due_of asking.tool case error) ⊎ Grew call.failed call.failed'
+    × (name : Name) × Contains (names_read case) name × (line ≡ tool_line asking.tool (read_fault_line name))) × TakesPart call.err line
 
 -- a write failed: one of the line, or one of the output, and then the line tells it
 abbrev pub TellsWriteFault : Tool → Change → Change → Type 0
@@ -81,11 +79,9 @@ module _ {A T : Type 0} (commands : Commands A T) (call : Call) where
   -- stream has that log.
   abbrev pub TellsStop : MayLog T → Case T → Type 0
   TellsStop Unlogged case =
-      TakesStopLines commands.asking.tool (IsDue commands.asking.tool (Grew call.failed call.failed') case
-      (error_for commands (commands.asking.reading call.words) (status_of commands case) call.journal)) call.err
+      TakesOneLine commands.asking call case (error_for commands (commands.asking.reading call.words) (status_of commands case) call.journal)
   TellsStop (Logged log) case =
-      (IsUntouched call.out × IsEmpty call.journal
-      × TakesStopLines commands.asking.tool (IsDue commands.asking.tool (Grew call.failed call.failed') case []) call.err)
+      (IsUntouched call.out × IsEmpty call.journal × TakesOneLine commands.asking call case [])
       ⊎ HasWork case × ForRun commands case (λ work. log.taken work call.journal call.err)
 
 -- A file could not be read: its reads alone failed, and the line names it. It is one that the case reads, and one that the words ask for.

@@ -57,21 +57,17 @@ with_feed inputs (Some feed) = record inputs { feeds = inputs.feeds ++ feed ∷ 
 abbrev pub room_after : List Feed → ℕ
 room_after feeds = MOST_FEED_CELLS - sum_by (λ (feed : Feed). length feed.cells) feeds
 
--- what comes of a file with these bytes, or of none, after these files, by what its bytes come to where they are not too many
-abbrev pub by_content : {T : Type 0} → List Name → Name → Option (List ℕ) → (List ℕ → Case T) → Case T
-by_content names file None comes = absent_case names file
-by_content names file (Some bytes) comes =
-    if nat_lt MOST_FILE_BYTES (length bytes) then Refused 4 (names ++ file ∷ []) (input_line file 6 0) else comes bytes
-
 -- what comes of the rows of a file, after these files: the next of what they mean, or the line of the first that breaks a rule
 abbrev pub by_rows : {S T : Type 0} → List Name → Name → Result S Broken → (List Name → S → Case T) → Case T
 by_rows names file (Ok value) next = next (names ++ file ∷ []) value
 by_rows names file (Err broken) next = Refused 4 (names ++ file ∷ []) (input_line file (kind_number broken.0) broken.1)
 
--- the same of the file with these bytes, by what its rows mean
+-- the same of the file with these bytes, by what its rows mean, or of none
 abbrev pub by_file : {S T : Type 0} → List Name → Name → Option (List ℕ) → (List Row → Result S Broken) → (List Name → S → Case T)
     → Case T
-by_file names file bytes meant next = by_content names file bytes (λ bytes. by_rows names file (meant (csv_rows bytes)) next)
+by_file names file None meant next = absent_case names file
+by_file names file (Some bytes) meant next =
+    if nat_lt MOST_FILE_BYTES (length bytes) then Refused 4 (names ++ file ∷ []) (input_line file 6 0) else by_rows names file (meant (csv_rows bytes)) next
 
 -- the inputs with the cells of one more record, and with one more feed
 abbrev pub more_cells : Inputs → List Name → List ℤ → Case Inputs
@@ -97,6 +93,11 @@ abbrev pub then_load : {S T : Type 0} → Case S → (List Name → S → Case T
 then_load (Go names value) next = next names value
 then_load (Refused status names line) next = Refused status names line
 
+-- the case is what comes after it, where that is told by a relation
+abbrev pub ThenLoads : {S T : Type 0} → Case S → (List Name → S → Case T → Type 0) → Case T → Type 0
+ThenLoads (Go names value) Next case = Next names value case
+ThenLoads (Refused status names line) Next case = case ≡ Refused status names line
+
 -- what comes of heads, one after another
 abbrev pub load : Files → List Name → Inputs → List Head → Case Inputs
 load files names inputs [] = Go names inputs
@@ -119,3 +120,10 @@ with_faults files asked program names inputs =
 -- what is to be done for what is asked on a program, by the files beside it: those that it names, and then that of the faults
 abbrev pub supplied_by : Asked → Program → Files → Case ToDo
 supplied_by asked program files = then_load (supplied_for asked.command program.heads files) (with_faults files asked program)
+
+-- what comes of a file with these bytes, or of none, after these files, where its bytes come to such a case if they are not too many
+abbrev pub ReadsFile : {T : Type 0} → List Name → Name → Option (List ℕ) → (List ℕ → Case T → Type 0) → Case T → Type 0
+ReadsFile names file None Comes case = case ≡ absent_case names file
+ReadsFile names file (Some bytes) Comes case =
+    (MOST_FILE_BYTES < length bytes) × (case ≡ Refused 4 (names ++ file ∷ []) (input_line file 6 0))
+    ⊎ (length bytes ≤ MOST_FILE_BYTES) × Comes bytes case

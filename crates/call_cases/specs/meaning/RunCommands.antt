@@ -58,7 +58,7 @@ asking =
       reading = asked_by;
       program = λ asked. asked.program;
       files = λ asked. files_of asked.command;
-      supplied = supplied_by;
+      supplies = λ asked program files case. case ≡ supplied_by asked program files;
     }
 
 -- the promises

@@ -11,7 +11,7 @@ use Rattle.call_cases.specs.meaning.Case.{IsCaseOf, IsCase, HasWork, text_of}
 use Rattle.call_cases.specs.meaning.RunCommands as run
 use Rattle.call_cases.specs.meaning.Headline.{Call, IsStop, Headline}
 use Rattle.batch_calls.specs.meaning.LogCommands as log
-use Rattle.resume_calls.specs.meaning.Resumption.{Reader, Resumption}
+use Rattle.resume_calls.specs.meaning.Resumption.{Resumption}
 use Rattle.resume_calls.specs.meaning.ResumeCommands as resume
 
 -- the sink took these bytes, and tells so
@@ -39,11 +39,11 @@ pub record BeginsText (count : ℕ) (text written : List ℕ) : Type 0 where
 -- there is a run to go on with, and its text is that of one thread, but for its first bytes: so many are the first of the logged call's output.
 abbrev pub LoggedLaw : Type 0
 LoggedLaw =
-    (reader : Reader) (call : Call) (files : Files) (names : List Name) (work : ToDo) (logged : List ℕ)
+    (call : Call) (files : Files) (names : List Name) (work : ToDo) (logged : List ℕ)
     → Headline log.commands call → call.files ≡ Some files → IsCase log.asking call.words files (Go names work)
     → work.command ≡ Log → HasBegun call → Wrote call.err logged → length logged ≤ MOST_FILE_BYTES
     → (resumed : Resumed) (files' : Files) (names' : List Name) (work' : ToDo) (case : Case Resumption)
     → IsCaseOf run.asking resumed.run files' (Go names' work') → IsSameBatch work work'
-    → bytes_of files' resumed.log ≡ Some logged → IsCaseOf (resume.asking reader) resumed files' case
-    → HasWork case × (count : ℕ) × (take count (run.work_text One work') ++ text_of (resume.commands reader) case ≡ run.work_text One work')
+    → bytes_of files' resumed.log ≡ Some logged → IsCaseOf resume.asking resumed files' case
+    → HasWork case × (count : ℕ) × (take count (run.work_text One work') ++ text_of resume.commands case ≡ run.work_text One work')
     × ((written : List ℕ) → Wrote call.out written → BeginsText count (run.work_text One work') written)

@@ -5,9 +5,9 @@ use Rattle.command_line.specs.meaning.Words.{asked_of}
 use Rattle.command_line.specs.declared.asked.Asked.{Asked}
 use Rattle.command_line.specs.declared.asked.Verb.TheVariants.{Run}
 use Rattle.call_cases.specs.meaning.Work.{ToDo, Case, Refused, Go}
-use Rattle.call_cases.specs.meaning.InputFiles.{supplied_by}
 use Rattle.call_cases.specs.declared.lines.Tool.TheVariants.{GprsView}
 use Rattle.call_cases.specs.meaning.Commands.{Asking}
+use Rattle.call_cases.specs.meaning.RunCommands as gprs
 use Rattle.call_cases.specs.meaning.RunCommands.{end_status}
 use Rattle.call_cases.specs.meaning.PlainText.{plain_ran}
 
@@ -24,9 +24,9 @@ is_explain (word ∷ words) = bytes_eq word (codes "explain")
 abbrev pub explained_by : List (List ℕ) → Option Asked
 explained_by words = if is_explain words then option_and_then without_trace (asked_of true Run words) else None
 
+-- that of such a run, over the files of the shelf
 abbrev pub asking : Asking Asked ToDo
-asking =
-    record { tool = GprsView; reading = explained_by; program = λ asked. asked.program; files = λ _ files. files; supplied = supplied_by }
+asking = record gprs.asking { tool = GprsView; reading = explained_by; files = λ asked files. files }
 
 -- the status of a case: a run is made on one thread, so that faults strike nothing
 abbrev pub case_status : Case ToDo → ℕ

@@ -3,8 +3,8 @@ use Rattle.std.specs.Prelude.{◌≡◌, ◌⊎◌, ℕ, List, [], None, IfSome}
 use Rattle.call_cases.specs.meaning.Work.{ToDo, Case}
 use Rattle.call_cases.specs.meaning.RunCommands.{MayRead, IsWhole}
 use Rattle.call_cases.specs.meaning.Case.{IsCase, ForCase, due_of}
-use Rattle.call_cases.specs.meaning.Answers.{TakesAll, TakesPart, Fails, Grew, Yields, IsStopLine}
-use Rattle.call_cases.specs.meaning.Headline.{Call, HasCaseLine, IsStop, IsDue, TellsReadFault, TellsWriteFault}
+use Rattle.call_cases.specs.meaning.Answers.{TakesAll, TakesPart, Fails, Grew, Yields}
+use Rattle.call_cases.specs.meaning.Headline.{Call, HasCaseLine, IsStop, TakesOneLine, TellsReadFault, TellsWriteFault}
 use Rattle.explain_calls.specs.meaning.Commands.{explained_by, asking, case_status}
 use Rattle.explain_calls.specs.meaning.Fronts.{IsHint, IsText}
 
@@ -19,10 +19,6 @@ ForOwn call P = ForCase asking call.words call.files P
 -- a text of the case, or, where a read failed, a hint on that
 abbrev pub IsOwnText : Call → Case ToDo → List ℕ → Type 0
 IsOwnText call case text = IsText case text ⊎ Grew call.failed call.failed' × IsHint text
-
--- a line that is due for the case, or that of a stop
-abbrev pub IsOwnLine : Call → Case ToDo → List ℕ → Type 0
-IsOwnLine call case line = IsDue asking.tool (Grew call.failed call.failed') case [] line ⊎ IsStopLine asking.tool line
 
 -- what holds of each call
 pub record Explains (call : Call) : Type 0 where
@@ -43,7 +39,7 @@ pub record Explains (call : Call) : Type 0 where
   pub line : ForOwn call (λ case. HasCaseLine call.status → TakesAll call.err (due_of asking.tool case []))
   pub read_fault : call.status ≡ 7 → TellsReadFault asking MayRead call × (text : List ℕ) × IsHint text × TakesAll call.out text
   pub write_fault : call.status ≡ 8 → TellsWriteFault asking.tool call.out call.err
-  pub stopped : IsStop call.status → ForOwn call (λ case. (line : List ℕ) × IsOwnLine call case line × TakesPart call.err line)
+  pub stopped : IsStop call.status → ForOwn call (λ case. TakesOneLine asking call case [])
   -- No read failed where a run is told, or a refusal of its program; and nothing is read for words of no command. The
   -- file that is refused is read once more, for what is told of it.
   pub untouched : IsWhole call.status ⊎ (call.status ≡ 3) → call.failed' ≡ call.failed

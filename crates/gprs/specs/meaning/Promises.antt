@@ -4,18 +4,16 @@ use Rattle.call_cases.specs.meaning.RunCommands as run
 use Rattle.batch_calls.specs.meaning.WaitingCommands as waiting
 use Rattle.batch_calls.specs.meaning.CkptCommands as ckpt
 use Rattle.batch_calls.specs.meaning.LogCommands as log
-use Rattle.audit_calls.specs.meaning.Tried.{Judge}
 use Rattle.audit_calls.specs.meaning.AuditCommands as audit
-use Rattle.resume_calls.specs.meaning.Resumption.{Reader}
 use Rattle.resume_calls.specs.meaning.ResumeCommands as resume
 use Rattle.gprs.specs.declared.choice.TopCall.{TopCall}
 use Rattle.gprs.specs.declared.choice.TopCall.TheVariants.{Run, Pipe, Audit, Ckpt, Log, Resume}
 
--- the promises of each of them, that of an audit by each judge, and that of a run that goes on by each reader
+-- the promises of each of them
 unfoldable pub Promised : TopCall → Call → Type 0
 Promised Run call = Headline run.commands call
 Promised Pipe call = Headline waiting.commands call
-Promised Audit call = (judge : Judge) → Headline (audit.commands judge) call
+Promised Audit call = Headline audit.commands call
 Promised Ckpt call = Headline ckpt.commands call
 Promised Log call = Headline log.commands call
-Promised Resume call = (reader : Reader) → Headline (resume.commands reader) call
+Promised Resume call = Headline resume.commands call

@@ -1,21 +1,12 @@
--- Laws of runs that go on.
+-- A law of runs that go on.
 use Rattle.std.specs.Prelude.{◌≡◌, ℕ, pos, List, ◌++◌, take}
-use Rattle.gp_base.specs.declared.feed.Inputs.{Inputs}
-use Rattle.gp_base.specs.declared.limits.Limits.{Limits}
-use Rattle.task_ast.specs.meaning.Tree.{Program}
 use Rattle.retirement_log.specs.meaning.Log.{log}
 use Rattle.gp_resume.specs.meaning.Reading.{IsLogOf}
 use Rattle.gp_resume.specs.meaning.Resumed.{bytes_before}
 use Rattle.command_line.specs.declared.asked.Command.TheVariants.{One}
 use Rattle.call_cases.specs.meaning.RunCommands.{work_text}
-use Rattle.resume_calls.specs.meaning.Resumption.{Reader, Resumption}
+use Rattle.resume_calls.specs.meaning.Resumption.{Resumption}
 use Rattle.resume_calls.specs.meaning.ResumeCommands.{rest_text}
-
--- no two readers differ
-abbrev pub OneReader : Type 0
-OneReader =
-    (reader other : Reader) (program : Program) (inputs : Inputs) (limits : Limits) (bytes : List ℕ)
-    → reader.answer_of program inputs limits bytes ≡ other.answer_of program inputs limits bytes
 
 -- Where the bytes of a log are the first of those of the run's own log, and come to these rows, the text of one thread begins with as many
 -- bytes as the last row says, and those that the run still writes when it goes on are all the others.

@@ -8,7 +8,7 @@ use Rattle.call_cases.specs.declared.lines.Tool.TheVariants.{Gprs}
 use Rattle.call_cases.specs.meaning.RunCommands.{IsWhole, end_status}
 use Rattle.call_cases.specs.meaning.RunCommands.{MayRead as MayReadFor}
 use Rattle.call_cases.specs.meaning.Commands.{Asking, Commands, unjournalled}
-use Rattle.resume_calls.specs.meaning.Resumption.{Reader, Resumption, supplied}
+use Rattle.resume_calls.specs.meaning.Resumption.{Resumption, supplies}
 
 -- A file that may be read for what the words ask: one of those of the run, or that of the log.
 pub data MayRead (resumed : Resumed) : Name → Type 0 where
@@ -24,17 +24,17 @@ abbrev pub rest_text : Resumption → List ℕ
 rest_text resumption = let work = resumption.work in rest.text work.program work.inputs work.limits resumption.rows
 
 -- what words ask for, and what that comes to by the files of the shelf
-abbrev pub asking : Reader → Asking Resumed Resumption
-asking reader =
+abbrev pub asking : Asking Resumed Resumption
+asking =
     record {
       tool = Gprs;
       reading = resumed_by;
       program = λ resumed. resumed.run.program;
       files = λ resumed files. files;
-      supplied = supplied reader;
+      supplies = supplies;
     }
 
 -- The promises: the output takes the text that is still to come, and the status is that of the run. The error stream then took nothing, and
 -- no run over a journal begins.
-abbrev pub commands : Reader → Commands Resumed Resumption
-commands reader = unjournalled (asking reader) MayRead rest_status IsWhole rest_text
+abbrev pub commands : Commands Resumed Resumption
+commands = unjournalled asking MayRead rest_status IsWhole rest_text

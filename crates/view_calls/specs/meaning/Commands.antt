@@ -12,9 +12,8 @@ use Rattle.call_cases.specs.declared.lines.Tool.TheVariants.{GprsView}
 use Rattle.call_cases.specs.meaning.Lines.{tool_line}
 use Rattle.call_cases.specs.meaning.Commands.{Asking, Commands, unjournalled}
 use Rattle.call_cases.specs.meaning.RunCommands as gprs
-use Rattle.audit_calls.specs.meaning.Tried.{Judge}
 use Rattle.view_calls.specs.declared.words.Viewed.{Viewed}
-use Rattle.view_calls.specs.meaning.Sights.{Sight, supplied, sight_text, sight_status}
+use Rattle.view_calls.specs.meaning.Sights.{Sight, supplies, sight_text, sight_status}
 
 -- a whole run without a trace, and a position of a run
 abbrev pub whole_run : Asked → Viewed
@@ -68,14 +67,14 @@ pub data MayRead (viewed : Viewed) : Name → Type 0 where
   of_run : {name : Name} → gprs.MayRead viewed.run name → MayRead viewed name
   the_trace : {name : Name} → viewed.trace ≡ Some name → MayRead viewed name
 
-abbrev pub asking : Judge → Asking Viewed Sight
-asking judge =
+abbrev pub asking : Asking Viewed Sight
+asking =
     record {
       tool = GprsView;
       reading = viewed_by;
       program = λ viewed. viewed.run.program;
       files = λ viewed files. files;
-      supplied = supplied judge;
+      supplies = supplies;
     }
 
 -- shown, or there is no such position
@@ -91,8 +90,8 @@ absent_line status None = []
 absent_line status (Some position) = if status == 5 then no_position_line position else []
 
 -- the promises: no run over a journal begins, and a run that is stuck or has spent its limits is shown like any other
-abbrev pub commands : Judge → Commands Viewed Sight
-commands judge =
-    record (unjournalled (asking judge) MayRead sight_status IsShown sight_text) {
+abbrev pub commands : Commands Viewed Sight
+commands =
+    record (unjournalled asking MayRead sight_status IsShown sight_text) {
       error = λ viewed status journal. absent_line status viewed.position;
     }

@@ -1,20 +1,22 @@
 -- What there is to be shown for a call, and the text that shows it.
-use Rattle.std.specs.Prelude.{ℕ, List, [], ◌∷◌, ◌++◌, Option, Some, None, unwrap_or, Result, Ok, Err, if◌then◌else◌}
+use Rattle.std.specs.Prelude.{◌≡◌, ℕ, List, [], ◌∷◌, ◌++◌, Option, Some, None, unwrap_or}
 use Rattle.gp_base.specs.meaning.Files.{bytes_of}
 use Rattle.task_ast.specs.meaning.Tree.{Name, Program}
 use Rattle.gp_audit.specs.declared.line.TraceLine.{TraceLine}
+use Rattle.gp_audit.specs.declared.verdict.Verdict.TheVariants.{Unlawful}
+use Rattle.gp_audit.specs.meaning.Lines.{IsTrace}
+use Rattle.gp_audit.specs.meaning.Reading.{IsBrokenAt}
+use Rattle.gp_audit.specs.meaning.Verdicts.{LawfulLines, IsVerdict}
 use Rattle.command_line.specs.declared.asked.Command.{Command}
 use Rattle.command_line.specs.declared.asked.Command.TheVariants as command
 use Rattle.call_cases.specs.meaning.Work.{Files, ToDo, Case, Refused, Go}
-use Rattle.call_cases.specs.meaning.InputFiles.{supplied_by, then_load, by_content}
+use Rattle.call_cases.specs.meaning.InputFiles.{supplied_by, ThenLoads, ReadsFile}
 use Rattle.call_cases.specs.meaning.Journals.{dependence_for}
 use Rattle.call_cases.specs.meaning.Lines.{input_line}
-use Rattle.audit_calls.specs.meaning.Tried.{Judge}
 use Rattle.run_views.specs.meaning.OrderText.{order_text}
 use Rattle.run_views.specs.meaning.Timeline.{timeline_text}
 use Rattle.run_views.specs.meaning.Why.{why_text}
 use Rattle.view_calls.specs.declared.words.Viewed.{Viewed}
-use Rattle.view_calls.specs.meaning.Traces.{unlawful_in}
 
 -- a run, with a position of it where one is asked for, and with the lines of its trace where there is one
 pub record Sight : Type 0 where
@@ -22,34 +24,24 @@ pub record Sight : Type 0 where
   pub position : Option ℕ
   pub trace : Option (List TraceLine)
 
--- what comes of the lines of a trace, after these files, where this line, if any, is the first that is not lawful
-abbrev pub by_lines : (names : List Name) → (file : Name) → (position : Option ℕ) → ToDo → List TraceLine → (unlawful : Option ℕ)
-    → Case Sight
-by_lines names file position work lines None =
-    Go (names ++ file ∷ []) (record { work = work; position = position; trace = Some lines })
-by_lines names file position work lines (Some row) = Refused 4 (names ++ file ∷ []) (input_line file 1 row)
+-- What comes of a trace with these bytes, where these files were read: the run with its lines, or the number of the first row that is no line, or with
+-- which they are not lawful.
+pub data Sees (file : Name) (names : List Name) (position : Option ℕ) (work : ToDo) (bytes : List ℕ) : Case Sight → Type 0 where
+  sees : {lines : List TraceLine} → IsTrace bytes lines → LawfulLines (dependence_for work) work.faults lines
+      → Sees file names position work bytes (Go names (record { work = work; position = position; trace = Some lines }))
+  unlawful : {lines : List TraceLine} {row : ℕ} → IsTrace bytes lines → IsVerdict (dependence_for work) work.faults lines (Unlawful row)
+      → Sees file names position work bytes (Refused 4 names (input_line file 1 row))
+  broken : {row : ℕ} → IsBrokenAt bytes row → Sees file names position work bytes (Refused 4 names (input_line file 1 row))
 
-module _ (judge : Judge) where
-  -- what comes of the rows of a trace
-  abbrev pub by_trace_rows : (names : List Name) → (file : Name) → (position : Option ℕ) → ToDo → Result (List TraceLine) ℕ → Case Sight
-  by_trace_rows names file position work (Ok lines) =
-      by_lines names file position work lines (unlawful_in (judge.verdict_of (dependence_for work) work.faults lines))
-  by_trace_rows names file position work (Err row) = Refused 4 (names ++ file ∷ []) (input_line file 1 row)
+-- what comes of the trace that the words name, where they name one, after these files
+abbrev pub WithTrace : (trace : Option Name) → Files → (position : Option ℕ) → (names : List Name) → ToDo → Case Sight → Type 0
+WithTrace None files position names work case = case ≡ Go names (record { work = work; position = position; trace = None })
+WithTrace (Some file) files position names work case =
+    ReadsFile names file (bytes_of files file) (Sees file (names ++ file ∷ []) position work) case
 
-  -- what comes of the file of a trace with these bytes, or of none
-  abbrev pub by_bytes : (names : List Name) → (file : Name) → (position : Option ℕ) → ToDo → Option (List ℕ) → Case Sight
-  by_bytes names file position work bytes =
-      by_content names file bytes (λ bytes. by_trace_rows names file position work (judge.lines_of bytes))
-
-  -- what comes of the trace that the words name, where they name one
-  abbrev pub by_trace : (trace : Option Name) → Files → (names : List Name) → (position : Option ℕ) → ToDo → Case Sight
-  by_trace None files names position work = Go names (record { work = work; position = position; trace = None })
-  by_trace (Some file) files names position work = by_bytes names file position work (bytes_of files file)
-
-  -- what an accepted program and the files beside it give: those are read that `gprs` reads, and then that of the trace
-  abbrev pub supplied : Viewed → Program → Files → Case Sight
-  supplied viewed program files =
-      then_load (supplied_by viewed.run program files) (λ names work. by_trace viewed.trace files names viewed.position work)
+-- what an accepted program and the files beside it give: those are read that `gprs` reads, and then that of the trace
+abbrev pub supplies : Viewed → Program → Files → Case Sight → Type 0
+supplies viewed program files = ThenLoads (supplied_by viewed.run program files) (WithTrace viewed.trace files viewed.position)
 
 -- the picture of a run with its faults, and with its trace, or the order of a run
 abbrev pub text_for : Command → ToDo → (trace : Option (List TraceLine)) → List ℕ

@@ -16,7 +16,7 @@ returns-in-Err-clause-shelf g c =
 
 pub returns-in-Err-clause-case : goal.returns-in-Err-clause-case
 returns-in-Err-clause-case g c =
-    λ judge. run_refuses judge c.args.audited (g.H.Shelf.files c.args.shelf.now) c.in-Err.refusal c.in-Err.ensures.case
+    λ judge. run_refuses c.args.audited (g.H.Shelf.files c.args.shelf.now) c.in-Err.refusal c.in-Err.ensures.case
 
 pub returns-in-Ok-trace_lines-clause-shelf : goal.returns-in-Ok-trace_lines-clause-shelf
 returns-in-Ok-trace_lines-clause-shelf g c = c.in-Ok-trace_lines.ensures.failed ∙ c.in-Ok.ensures.shelf

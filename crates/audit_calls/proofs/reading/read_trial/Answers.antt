@@ -10,7 +10,7 @@ use Rattle.audit_calls.proofs.reading.read_trial.Goals as goal
 pub returns-in-Ok-None-clause-case : goal.returns-in-Ok-None-clause-case
 returns-in-Ok-None-clause-case g c = λ judge.
     let none : audited_by (texts c.args.words.now) ≡ None = sym (rw c.in-Ok-None.field-0-is at c.in-Ok-None.ensures.audited) in
-    usage_case (asking judge) (texts c.args.words.now) (g.H.Shelf.files c.args.shelf.now) none
+    usage_case asking (texts c.args.words.now) (g.H.Shelf.files c.args.shelf.now) none
 
 pub returns-clause-shelf : goal.returns-clause-shelf
 returns-clause-shelf g c =
@@ -23,5 +23,5 @@ pub returns-clause-case : goal.returns-clause-case
 returns-clause-case g c = λ judge.
     let some : audited_by (texts c.args.words.now) ≡ Some c.in-Ok-Some.audited =
     sym (rw c.in-Ok-Some.field-0-is at c.in-Ok-Some.ensures.audited) in
-    asked_case (asking judge) (texts c.args.words.now) (case_of judge)
+    asked_case asking (texts c.args.words.now) (case_of judge)
     (g.H.Shelf.files c.args.shelf.now) c.in-Ok-Some.audited c.read_audited.result some (c.read_audited.ensures.case judge)

@@ -10,7 +10,7 @@ use Rattle.audit_calls.proofs.verdict.put_verdict.Goals as goal
 
 pub returns-in_err-verdict : goal.returns-in_err-verdict
 returns-in_err-verdict g c = λ judge.
-    let verdict = (tried_in judge c.args.trial.now).verdict in
+    let verdict = tried_in judge c.args.trial.now in
     let stopped = err_from_is_err_and c.from_residual.result c.from_residual.ensures.1 in
     stopped_memory (verdict_text verdict) (verdict_status verdict) (g.O.Sink.written c.args.out.now)
     (g.O.Sink.faults c.args.out.now) c.from_residual.result stopped.0 stopped.1 stopped.2

@@ -11,7 +11,7 @@ use Rattle.resume_calls.proofs.reading.read_halted.Goals as goal
 pub returns-in-Ok-None-clause-case : goal.returns-in-Ok-None-clause-case
 returns-in-Ok-None-clause-case g c = λ reader.
     let none : resumed_by (texts c.args.words.now) ≡ None = sym (rw c.in-Ok-None.field-0-is at c.in-Ok-None.ensures.resumed) in
-    usage_case (asking reader) (texts c.args.words.now) (g.H.Shelf.files c.args.shelf.now) none
+    usage_case asking (texts c.args.words.now) (g.H.Shelf.files c.args.shelf.now) none
 
 pub returns-clause-shelf : goal.returns-clause-shelf
 returns-clause-shelf g c =
@@ -24,7 +24,7 @@ pub returns-clause-case : goal.returns-clause-case
 returns-clause-case g c = λ reader.
     let some : resumed_by (texts c.args.words.now) ≡ Some c.in-Ok-Some.resumed =
     sym (rw c.in-Ok-Some.field-0-is at c.in-Ok-Some.ensures.resumed) in
-    asked_case (asking reader) (texts c.args.words.now) (case_of reader)
+    asked_case asking (texts c.args.words.now) (case_of reader)
     (g.H.Shelf.files c.args.shelf.now) c.in-Ok-Some.resumed c.read_resumed.result some (c.read_resumed.ensures.case reader)
 
 pub returns-clause-may : goal.returns-clause-may

@@ -14,7 +14,7 @@ returns-in-Err-clause-shelf g c =
 
 pub returns-in-Err-clause-case : goal.returns-in-Err-clause-case
 returns-in-Err-clause-case g c =
-    λ reader. run_refuses reader c.args.resumed (g.H.Shelf.files c.args.shelf.now) c.in-Err.refusal c.in-Err.ensures.case
+    λ reader. run_refuses c.args.resumed (g.H.Shelf.files c.args.shelf.now) c.in-Err.refusal c.in-Err.ensures.case
 
 pub returns-in-Ok-read_file-clause-shelf : goal.returns-in-Ok-read_file-clause-shelf
 returns-in-Ok-read_file-clause-shelf g c = c.in-Ok-read_file.ensures.failed ∙ c.in-Ok.ensures.shelf
@@ -39,7 +39,7 @@ returns-in-Err-read_file-clause-shelf g c =
 pub returns-in-Err-read_file-clause-case : goal.returns-in-Err-read_file-clause-case
 returns-in-Err-read_file-clause-case g c = λ reader.
     let request = c.in-Ok.request in
-    file_refuses reader c.args.resumed (List ℕ) (g.H.Shelf.files c.args.shelf.now) (g.H.Shelf.files c.read_asked.new.shelf)
+    file_refuses c.args.resumed (List ℕ) (g.H.Shelf.files c.args.shelf.now) (g.H.Shelf.files c.read_asked.new.shelf)
     (files_read request.asked (program_in request)) (work_of request)
     (g.H.Shelf.failed c.read_asked.new.shelf)
     (g.H.Shelf.failed c.read_file.new.shelf) c.in-Err-read_file.refusal c.in-Ok.ensures.kept c.in-Ok.ensures.case

@@ -1,7 +1,5 @@
-use Rattle.std.proofs.Common.{ap, ◌∙◌}
 use Rattle.call_cases.specs.Decided.{program_in, work_of}
-use Rattle.audit_calls.proofs.Verdicts.{few_steps, verdict_judged}
-use Rattle.view_calls.specs.meaning.Traces.{unlawful_in}
+use Rattle.audit_calls.proofs.Verdicts.{few_steps, verdict_is}
 use Rattle.view_calls.proofs.reading.first_unlawful.Goals as goal
 
 pub audit-requires-clause-few_steps : goal.audit-requires-clause-few_steps
@@ -11,7 +9,9 @@ audit-requires-clause-few_steps c =
     c.requires.within.few_subthreads
 
 pub returns : goal.returns
-returns c = λ judge.
-    c.unlawful_in.ensures
-    ∙ ap unlawful_in (verdict_judged judge (work_of c.args.request.now) c.args.lines.now c.in_ok-ran.ran.order c.in_ok-verdict.verdict
-    c.in_ok-ran.ensures.order c.in_ok-verdict.ensures)
+returns c = (
+  c.in_ok-verdict.verdict,
+  verdict_is (work_of c.args.request.now) c.args.lines.now c.in_ok-ran.ran.order c.in_ok-verdict.verdict c.in_ok-ran.ensures.order
+      c.in_ok-verdict.ensures,
+  c.unlawful_in.ensures,
+)

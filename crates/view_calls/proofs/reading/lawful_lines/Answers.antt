@@ -7,10 +7,10 @@ use Rattle.view_calls.proofs.Readings.{lines_told, unlawful_told}
 use Rattle.view_calls.proofs.reading.lawful_lines.Goals as goal
 
 pub returns-in-Ok-Some-clause-told : goal.returns-in-Ok-Some-clause-told
-returns-in-Ok-Some-clause-told c = λ judge names position text within is.
-    unlawful_told judge names c.args.name.now position
-    (work_of c.args.request.now) text c.args.lines c.in-Ok-Some.number c.refused_input.result within is
-    (sym (c.in-Ok-Some.ensures judge) ∙ c.in-Ok-Some.field-0-is) c.refused_input.ensures
+returns-in-Ok-Some-clause-told c = λ names position text within is.
+    let given = c.in-Ok-Some.ensures in
+    unlawful_told names c.args.name.now position (work_of c.args.request.now) text c.args.lines given.0 c.in-Ok-Some.number
+    c.refused_input.result within is given.1 (sym given.2 ∙ c.in-Ok-Some.field-0-is) c.refused_input.ensures
 
 pub returns-in-Ok-Some-clause-unread : goal.returns-in-Ok-Some-clause-unread
 returns-in-Ok-Some-clause-unread c = λ names failed.
@@ -18,6 +18,7 @@ returns-in-Ok-Some-clause-unread c = λ names failed.
     c.refused_input.ensures
 
 pub returns-in-Ok-None-clause-told : goal.returns-in-Ok-None-clause-told
-returns-in-Ok-None-clause-told c = λ judge names position text within is.
-    lines_told judge names c.args.name.now position (work_of c.args.request.now) text c.args.lines within is
-    (sym (c.in-Ok-None.ensures judge) ∙ c.in-Ok-None.field-0-is)
+returns-in-Ok-None-clause-told c = λ names position text within is.
+    let given = c.in-Ok-None.ensures in
+    lines_told names c.args.name.now position (work_of c.args.request.now) text c.args.lines given.0 within is given.1
+    (sym given.2 ∙ c.in-Ok-None.field-0-is)

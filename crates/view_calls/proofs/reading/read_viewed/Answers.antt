@@ -13,22 +13,22 @@ returns-in-Err-clause-shelf g c =
     (g.H.Shelf.failed c.read_asked.new.shelf) c.in-Err.refusal c.in-Err.ensures.shelf
 
 pub returns-in-Err-clause-case : goal.returns-in-Err-clause-case
-returns-in-Err-clause-case g c = λ judge.
-    run_refuses judge c.args.viewed (g.H.Shelf.files c.args.shelf.now) c.in-Err.refusal c.in-Err.ensures.case
+returns-in-Err-clause-case g c =
+    run_refuses c.args.viewed (g.H.Shelf.files c.args.shelf.now) c.in-Err.refusal c.in-Err.ensures.case
 
 pub returns-in-None-clause-case : goal.returns-in-None-clause-case
-returns-in-None-clause-case g c = λ judge.
+returns-in-None-clause-case g c =
     let request = c.in-Ok.request in
-    run_viewed judge c.args.viewed c.in-None.is (g.H.Shelf.files c.args.shelf.now) (files_read request.asked (program_in request))
+    run_viewed c.args.viewed c.in-None.is (g.H.Shelf.files c.args.shelf.now) (files_read request.asked (program_in request))
     (work_of request) c.in-Ok.ensures.case
 
 pub returns-in-Ok-trace_lines-clause-case : goal.returns-in-Ok-trace_lines-clause-case
-returns-in-Ok-trace_lines-clause-case g c = λ judge.
+returns-in-Ok-trace_lines-clause-case g c =
     let request = c.in-Ok.request in
     let names = files_read request.asked (program_in request) in
-    lines_viewed judge c.args.viewed c.in-Some.file c.in-Some.is names (work_of request) (g.H.Shelf.files c.args.shelf.now)
+    lines_viewed c.args.viewed c.in-Some.file c.in-Some.is names (work_of request) (g.H.Shelf.files c.args.shelf.now)
     (g.H.Shelf.files c.read_asked.new.shelf) c.in-Ok-trace_lines.lines
-    c.in-Ok.ensures.kept c.in-Ok.ensures.case (c.in-Ok-trace_lines.ensures.told judge names c.args.viewed.position)
+    c.in-Ok.ensures.kept c.in-Ok.ensures.case (c.in-Ok-trace_lines.ensures.told names c.args.viewed.position)
 
 pub returns-in-Err-trace_lines-clause-shelf : goal.returns-in-Err-trace_lines-clause-shelf
 returns-in-Err-trace_lines-clause-shelf g c =
@@ -39,9 +39,9 @@ returns-in-Err-trace_lines-clause-shelf g c =
     c.in-Err-trace_lines.ensures.failed)
 
 pub returns-in-Err-trace_lines-clause-case : goal.returns-in-Err-trace_lines-clause-case
-returns-in-Err-trace_lines-clause-case g c = λ judge.
+returns-in-Err-trace_lines-clause-case g c =
     let request = c.in-Ok.request in
     let names = files_read request.asked (program_in request) in
-    trace_refuses judge c.args.viewed c.in-Some.file c.in-Some.is names (work_of request) (g.H.Shelf.files c.args.shelf.now)
+    trace_refuses c.args.viewed c.in-Some.file c.in-Some.is names (work_of request) (g.H.Shelf.files c.args.shelf.now)
     (g.H.Shelf.files c.read_asked.new.shelf) c.in-Err-trace_lines.refusal
-    c.in-Ok.ensures.kept c.in-Ok.ensures.case (c.in-Err-trace_lines.ensures.told judge names c.args.viewed.position)
+    c.in-Ok.ensures.kept c.in-Ok.ensures.case (c.in-Err-trace_lines.ensures.told names c.args.viewed.position)

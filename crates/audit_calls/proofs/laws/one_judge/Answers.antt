@@ -1,5 +1,0 @@
-use Rattle.audit_calls.proofs.Verdicts as lemmas
-use Rattle.audit_calls.proofs.laws.one_judge.Goals as goal
-
-pub returns : goal.returns
-returns c = lemmas.one_judge

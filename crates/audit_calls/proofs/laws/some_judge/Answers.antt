@@ -1,5 +1,0 @@
-use Rattle.audit_calls.proofs.SomeJudge as lemmas
-use Rattle.audit_calls.proofs.laws.some_judge.Goals as goal
-
-pub returns : goal.returns
-returns c = lemmas.some_judge
