@@ -3,7 +3,7 @@
 use crate::pieces::{push_between, push_number, push_words};
 use std::alloc::{AllocError, Global};
 use task_parser::{Kind, Token};
-use text_places::bytes_of;
+use text_places::{bytes_of, line_before};
 
 const OPEN: Kind = Kind::Mark(4);
 
@@ -26,40 +26,36 @@ struct Closing {
     closed: u32,
 }
 
-// The tokens `{` that are open at a place, by their numbers; the first `}` at the beginning of a line that stands
-// in another column than the line of its `{` begins in; and the last `}`.
-#[derive(Drop)]
-struct Blocks {
-    open: Vec<usize>,
+// Of blocks that were closed: the first `}` at the beginning of a line that stands in another column than the line of
+// its `{` begins in; and the last `}`.
+#[derive(Clone, Copy)]
+struct Closed {
     moved: Option<Closing>,
     last: Option<Closing>,
 }
 
-// How many bytes of a line stand before a place.
-fn column(program: &[u8], at: u32) -> usize {
-    let before = match program.get(..at as usize) {
-        Some(before) => before,
-        None => &[],
-    };
-    before
-        .iter()
-        .rev()
-        .take_while(|byte| **byte != b'\n')
-        .count()
+// The tokens `{` that are open at a place, by their numbers, and what is known of blocks that were closed.
+#[derive(Drop)]
+struct Blocks {
+    open: Vec<usize>,
+    closed: Closed,
 }
 
 // The first token of the line of this one, by their numbers.
 fn line_start(tokens: &[Token], number: usize) -> usize {
-    let (Some(token), Some(before)) = (tokens.get(number), tokens.get(..number)) else {
+    let Some(token) = tokens.get(number) else {
         return number;
     };
-    let line = token.line;
-    let beside = before
-        .iter()
-        .rev()
-        .take_while(|other| other.line == line)
-        .count();
-    number.saturating_sub(beside)
+    let mut first = number;
+    while first > 0 && tokens[first - 1].line == token.line {
+        first -= 1;
+    }
+    first
+}
+
+/// A `;`, `{` or `}`.
+pub fn is_end(kind: Kind) -> bool {
+    matches!(kind, Kind::Mark(4 | 5 | 7))
 }
 
 // A `}` and its `{`, by their numbers.
@@ -79,18 +75,6 @@ fn push_closing(text: &mut Vec<u8>, closing: Closing) -> Result<(), AllocError> 
     push_between(text, b"", u64::from(closing.opened), b"\n")
 }
 
-// Appends which block a `}` may have closed too early: the first that stands in another column than the line of its `{`,
-// or the last.
-fn push_early(text: &mut Vec<u8>, blocks: &Blocks) -> Result<(), AllocError> {
-    if let Some(closing) = blocks.moved {
-        push_closing(text, closing)
-    } else if let Some(closing) = blocks.last {
-        push_closing(text, closing)
-    } else {
-        Ok(())
-    }
-}
-
 impl<'a> Place<'a> {
     /// The token, or none at the end of the program.
     pub fn token(&self) -> Option<&'a Token> {
@@ -100,7 +84,7 @@ impl<'a> Place<'a> {
     // Where the line of a token begins, in bytes from the line's first.
     fn indent(&self, number: usize) -> usize {
         match self.tokens.get(line_start(self.tokens, number)) {
-            Some(token) => column(self.program, token.from),
+            Some(token) => line_before(self.program, token.from as usize).len(),
             None => 0,
         }
     }
@@ -141,10 +125,22 @@ impl<'a> Place<'a> {
         }
     }
 
+    // What is known of blocks that were closed, with one more.
+    fn with_closed(&self, closed: Closed, open: usize, close: usize) -> Closed {
+        let moved = match closed.moved {
+            Some(moved) => Some(moved),
+            None => self.moved(open, close),
+        };
+        Closed {
+            moved,
+            last: closing_of(self.tokens, open, close),
+        }
+    }
+
     // The blocks of the tokens before this one.
     fn blocks(&self, alloc: Global) -> Result<Blocks, AllocError> {
-        let mut blocks = Blocks {
-            open: Vec::new(alloc),
+        let mut open = Vec::new(alloc);
+        let mut closed = Closed {
             moved: None,
             last: None,
         };
@@ -153,17 +149,34 @@ impl<'a> Place<'a> {
                 break;
             }
             if token.kind == OPEN {
-                blocks.open.push(at)?;
+                open.push(at)?;
             } else if token.kind == CLOSE {
-                if let Some(open) = blocks.open.pop() {
-                    blocks.last = closing_of(self.tokens, open, at);
-                    if blocks.moved.is_none() {
-                        blocks.moved = self.moved(open, at);
-                    }
+                if let Some(from) = open.pop() {
+                    closed = self.with_closed(closed, from, at);
                 }
             }
         }
-        Ok(blocks)
+        Ok(Blocks { open, closed })
+    }
+
+    // The last block that is open.
+    fn last_open(&self, alloc: Global) -> Result<Option<usize>, AllocError> {
+        let mut blocks = self.blocks(alloc)?;
+        Ok(blocks.open.pop())
+    }
+
+    // Appends which block a `}` may have closed too early: the first that stands in another column than the line of its
+    // `{`, or the last.
+    fn push_early(&self, alloc: Global, text: &mut Vec<u8>) -> Result<(), AllocError> {
+        let closed = self.blocks(alloc)?.closed;
+        let closing = match closed.moved {
+            Some(moved) => Some(moved),
+            None => closed.last,
+        };
+        match closing {
+            Some(closing) => push_closing(text, closing),
+            None => Ok(()),
+        }
     }
 
     // Appends the lines in which open blocks begin.
@@ -174,25 +187,32 @@ impl<'a> Place<'a> {
             b"hint: the blocks are open that begin in the lines "
         })?;
         for (at, number) in open.iter().enumerate() {
-            if at > 0 {
-                text.extend_from_slice(b", ")?;
-            }
-            if let Some(token) = self.tokens.get(*number) {
-                push_number(text, u64::from(token.line))?;
-            }
+            self.push_line(text, at, *number)?;
         }
         text.extend_from_slice(b"\n")
     }
 
+    // Appends the line of a token, with a comma before it where it is not the first.
+    fn push_line(&self, text: &mut Vec<u8>, at: usize, number: usize) -> Result<(), AllocError> {
+        if at > 0 {
+            text.extend_from_slice(b", ")?;
+        }
+        match self.tokens.get(number) {
+            Some(token) => push_number(text, u64::from(token.line)),
+            None => Ok(()),
+        }
+    }
+
     /// The first token of the statement whose block begins at this token.
     pub fn head_of(&self, open: usize) -> Option<&'a Token> {
-        let before = self.tokens.get(..open)?;
-        let length = before
-            .iter()
-            .rev()
-            .take_while(|token| !matches!(token.kind, Kind::Mark(4 | 5 | 7)))
-            .count();
-        self.tokens.get(open.saturating_sub(length))
+        if open > self.tokens.len() {
+            return None;
+        }
+        let mut first = open;
+        while first > 0 && !is_end(self.tokens[first - 1].kind) {
+            first -= 1;
+        }
+        self.tokens.get(first)
     }
 
     // Appends that a block may lack its `}`, unless it is that of a task.
@@ -212,30 +232,39 @@ impl<'a> Place<'a> {
         push_between(text, b"", u64::from(head.line), b" is open\n")
     }
 
-    /// The hints where a text ends in a block, a task begins in one, or a `}` stands where no block is open: which blocks
-    /// are open, and the first `}` that stands in another column than the line of its `{`.
-    pub fn block_hints(&self, alloc: Global) -> Result<Vec<u8>, AllocError> {
-        let mut text = Vec::new(alloc);
-        let closes = self.closes();
-        if !closes && !self.ends_blocks() {
-            return Ok(text);
+    /// Appends the hints where a text ends in a block, a task begins in one, or a `}` stands where no block is open: which
+    /// blocks are open, and the first `}` that stands in another column than the line of its `{`.
+    pub fn push_block_hints(&self, alloc: Global, text: &mut Vec<u8>) -> Result<(), AllocError> {
+        if !self.closes() && !self.ends_blocks() {
+            return Ok(());
         }
         let blocks = self.blocks(alloc)?;
-        if closes && !blocks.open.is_empty() {
-            return Ok(text);
+        self.push_blocks(text, &blocks.open, blocks.closed)
+    }
+
+    // Appends those hints, where these blocks are open.
+    fn push_blocks(
+        &self,
+        text: &mut Vec<u8>,
+        open: &[usize],
+        closed: Closed,
+    ) -> Result<(), AllocError> {
+        let closes = self.closes();
+        if closes && !open.is_empty() {
+            return Ok(());
         }
-        if !blocks.open.is_empty() {
-            self.push_open(&mut text, &blocks.open)?;
+        if !open.is_empty() {
+            self.push_open(text, open)?;
         } else if closes {
             text.extend_from_slice(b"hint: no block is open here\n")?;
         }
-        if let Some(closing) = blocks.moved {
-            push_closing(&mut text, closing)?;
+        if let Some(closing) = closed.moved {
+            push_closing(text, closing)?;
         }
-        if self.is_inner_task() && !blocks.open.is_empty() {
+        if self.is_inner_task() && !open.is_empty() {
             text.extend_from_slice(b"hint: no task stands inside of another\n")?;
         }
-        Ok(text)
+        Ok(())
     }
 
     // Whether a task begins here that is indented.
@@ -243,40 +272,36 @@ impl<'a> Place<'a> {
         self.token().is_some() && self.indent(self.number) > 0
     }
 
-    /// The hint where a control statement stands in an arm of a `when`, and no deeper than the line that begins the arm:
-    /// this block may lack its `}`.
-    pub fn arm_hints(&self, alloc: Global) -> Result<Vec<u8>, AllocError> {
-        let mut text = Vec::new(alloc);
-        let mut blocks = self.blocks(alloc)?;
-        let Some(open) = blocks.open.pop() else {
-            return Ok(text);
-        };
-        if self.begins_line() && self.indent(self.number) <= self.indent(open) {
-            self.push_missing(&mut text, open)?;
+    /// Appends the hint where a control statement stands in an arm of a `when`, and no deeper than the line that begins
+    /// the arm: this block may lack its `}`.
+    pub fn push_arm_hints(&self, alloc: Global, text: &mut Vec<u8>) -> Result<(), AllocError> {
+        match self.last_open(alloc)? {
+            Some(open) if self.begins_line() && self.indent(self.number) <= self.indent(open) => {
+                self.push_missing(text, open)
+            }
+            _ => Ok(()),
         }
-        Ok(text)
     }
 
-    /// The hint on an `else` that can't stand: which block is open where no `}` stands before it, and else which block a
-    /// `}` closes: the first in another column than the line of its `{`, or the last.
-    pub fn else_hints(&self, alloc: Global) -> Result<Vec<u8>, AllocError> {
-        let mut text = Vec::new(alloc);
-        let mut blocks = self.blocks(alloc)?;
+    /// Appends the hint on an `else` that can't stand: which block is open where no `}` stands before it, and else which
+    /// block a `}` closes: the first in another column than the line of its `{`, or the last.
+    pub fn push_else_hints(&self, alloc: Global, text: &mut Vec<u8>) -> Result<(), AllocError> {
         if self.is_after_block() {
-            push_early(&mut text, &blocks)?;
-        } else if let Some(open) = blocks.open.pop() {
-            self.push_missing(&mut text, open)?;
+            return self.push_early(alloc, text);
         }
-        Ok(text)
+        match self.last_open(alloc)? {
+            Some(open) => self.push_missing(text, open),
+            None => Ok(()),
+        }
     }
 
-    /// The hint on a statement after the end of a task, where it begins a line and is indented: which block a `}` closes,
-    /// as for an `else`.
-    pub fn closing_hints(&self, alloc: Global) -> Result<Vec<u8>, AllocError> {
-        let mut text = Vec::new(alloc);
+    /// Appends the hint on a statement after the end of a task, where it begins a line and is indented: which block a `}`
+    /// closes, as for an `else`.
+    pub fn push_closing_hints(&self, alloc: Global, text: &mut Vec<u8>) -> Result<(), AllocError> {
         if self.begins_line() && self.indent(self.number) > 0 {
-            push_early(&mut text, &self.blocks(alloc)?)?;
+            self.push_early(alloc, text)
+        } else {
+            Ok(())
         }
-        Ok(text)
     }
 }

@@ -4,9 +4,9 @@ use crate::foreign::{function, without_parentheses};
 use crate::mark_hints::ONE_INDEX;
 use crate::spots::{
     ASSIGN, CLOSE_BRACKET, COMMA, OPEN_BRACKET, OPEN_PAREN, READ, SEMICOLON, Spot, WRITE,
-    is_arithmetic, is_reserved,
+    is_arithmetic,
 };
-use crate::told_hints::Hint;
+use crate::told_hints::{Hint, Told, told_of};
 use task_parser::Kind;
 
 const INDEX: &[u8] = b"an index here is a number or a control variable: `k = i + 1; lock l[k];`";
@@ -19,41 +19,51 @@ pub const BRACKETS: &[u8] = b"a size and an index stand between `[` and `]`";
 /// What is told of a size that is no number.
 pub const SIZE: &[u8] = b"a size stands as a number in the text";
 
+// What is told of a cell of a feed in these statements.
+static OF_FEED: [Told; 2] = [
+    (
+        READ,
+        b"a cell of a feed stands in an expression: `$x = f[i, 0];`",
+    ),
+    (WRITE, ONLY_READ),
+];
+
+// What is told of a token that begins no index.
+fn no_index(kind: Kind) -> Option<&'static [u8]> {
+    match kind {
+        Kind::Reg => Some(
+            b"an index here is control: `settle $x into c;` makes it that; `when $x == 0 { .. }` goes by data among cells that are named",
+        ),
+        Kind::Word(21..=23) | Kind::Mark(2 | 16) => Some(INDEX),
+        _ => None,
+    }
+}
+
+// Whether an expression or a cell goes on with this token.
+fn goes_on(kind: Kind) -> bool {
+    is_arithmetic(kind) || kind == OPEN_BRACKET || kind == OPEN_PAREN
+}
+
 impl<'a> Spot<'a> {
     /// A cell of a feed in a `read` or a `write`.
     pub fn feed_hint(&self) -> Option<&'static [u8]> {
         if !self.wants(CLOSE_BRACKET) || !self.is_feed(self.bytes(self.back(3))) {
             return None;
         }
-        let kind = self.back(4)?.kind;
-        if kind == READ {
-            Some(b"a cell of a feed stands in an expression: `$x = f[i, 0];`")
-        } else if kind == WRITE {
-            Some(ONLY_READ)
-        } else {
-            None
-        }
+        told_of(&OF_FEED, self.back(4)?.kind)
     }
 
     /// What is no index of a lock or of a record.
     pub fn index_hint(&self) -> Option<&'static [u8]> {
         let kind = self.kind()?;
-        if kind == Kind::Reg && self.wants_index() {
-            Some(
-                b"an index here is control: `settle $x into c;` makes it that; `when $x == 0 { .. }` goes by data among cells that are named",
-            )
-        } else if self.wants_index() && matches!(kind, Kind::Word(21..=23) | Kind::Mark(2 | 16)) {
-            Some(INDEX)
-        } else if self.wants(CLOSE_BRACKET)
-            && (is_arithmetic(self.kind()) || kind == OPEN_BRACKET || kind == OPEN_PAREN)
-        {
-            if self.is_after_task() {
-                Some(INDEX)
-            } else {
-                Some(SIZE)
-            }
-        } else {
+        if self.wants_index() {
+            no_index(kind)
+        } else if !self.wants(CLOSE_BRACKET) || !goes_on(kind) {
             None
+        } else if self.is_after_task() {
+            Some(INDEX)
+        } else {
+            Some(SIZE)
         }
     }
 
@@ -68,7 +78,7 @@ impl<'a> Spot<'a> {
             ))
         } else if kind == OPEN_BRACKET && self.wants(ASSIGN) {
             Some(Hint::Fixed(self.set_hint()))
-        } else if kind == OPEN_BRACKET && self.kind_before() == Some(CLOSE_BRACKET) {
+        } else if kind == OPEN_BRACKET && self.follows(CLOSE_BRACKET) {
             Some(Hint::Fixed(ONE_INDEX))
         } else if kind == OPEN_BRACKET && self.wants(SEMICOLON) {
             Some(Hint::Fixed(b"write `barrier b;`"))
@@ -89,10 +99,10 @@ impl<'a> Spot<'a> {
     // A `(` that can't stand.
     fn paren_hint(&self) -> Option<Hint<'a>> {
         let before = self.bytes(self.back(1));
-        if is_reserved(self.kind_before()) {
+        if self.follows_word() {
             return Some(Hint::Fixed(without_parentheses(before)?));
         }
-        if self.kind_before() != Some(Kind::Name) {
+        if !self.follows(Kind::Name) {
             return None;
         }
         if self.wants(SEMICOLON) {

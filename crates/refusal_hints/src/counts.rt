@@ -1,59 +1,58 @@
 // What is told of sizes, of parameters and of arguments.
 
+use crate::hints::{name_of, variable};
 use crate::pieces::{push_between, push_words};
 use crate::spelling::push_name;
 use gp_base::Name;
-use rule_blame::Role;
 use std::alloc::AllocError;
 use task_ast::{Head, Param, Program, TaskText};
 
 // How many parameters of a task are told.
 const MOST_PARAMETERS: usize = 8;
 
-// What a head of this name declares, and what it has none of.
-fn none_of(head: &Head, name: &Name) -> Option<(&'static [u8], &'static [u8])> {
-    let (own, told): (&Name, (&'static [u8], &'static [u8])) = match head {
-        Head::LockHead { name, .. } => (name, (b"lock array ", b" has 0 locks")),
-        Head::BarrierHead { name, .. } => (name, (b"barrier ", b" is of 0 threads")),
-        Head::RecHead { name, .. } => (name, (b"record ", b" has 0 cells")),
-        Head::FeedHead { name, .. } => (name, (b"feed ", b" has 0 fields in each row")),
-    };
-    if own.as_slice() == name.as_slice() {
-        Some(told)
-    } else {
-        None
+// What a head declares, and what it has none of.
+fn none_of(head: &Head) -> (&'static [u8], &'static [u8]) {
+    match head {
+        Head::LockHead { .. } => (b"lock array ", b" has 0 locks"),
+        Head::BarrierHead { .. } => (b"barrier ", b" is of 0 threads"),
+        Head::RecHead { .. } => (b"record ", b" has 0 cells"),
+        Head::FeedHead { .. } => (b"feed ", b" has 0 fields in each row"),
     }
 }
 
 /// Appends which head has a size of 0.
 pub fn push_no_size(text: &mut Vec<u8>, program: &Program, name: &Name) -> Result<(), AllocError> {
     for head in program.heads.as_slice() {
-        if let Some((before, after)) = none_of(head, name) {
+        if name_of(head).as_slice() == name.as_slice() {
+            let (before, after) = none_of(head);
             return push_words(text, before, name.as_slice(), after);
         }
     }
     push_words(text, b"the size of ", name.as_slice(), b" is 0")
 }
 
+// Appends a parameter, with a comma before it where it is not the first.
+fn push_param(text: &mut Vec<u8>, at: usize, param: &Param) -> Result<(), AllocError> {
+    if at > 0 {
+        text.extend_from_slice(b", ")?;
+    }
+    let (role, name) = variable(param);
+    push_name(text, role, name)
+}
+
 // Appends parameters between commas, the first of them.
 fn push_params(text: &mut Vec<u8>, params: &[Param]) -> Result<(), AllocError> {
-    for (at, param) in params.iter().enumerate().take(MOST_PARAMETERS) {
-        if at > 0 {
-            text.extend_from_slice(b", ")?;
+    for (at, param) in params.iter().enumerate() {
+        if at >= MOST_PARAMETERS {
+            return text.extend_from_slice(b", ..");
         }
-        match param {
-            Param::Ctl(name) => push_name(text, Role::Control, name)?,
-            Param::Reg(name) => push_name(text, Role::Data, name)?,
-        }
-    }
-    if params.len() > MOST_PARAMETERS {
-        text.extend_from_slice(b", ..")?;
+        push_param(text, at, param)?;
     }
     Ok(())
 }
 
-// The first task of this name.
-fn task_named<'a>(program: &'a Program, name: &[u8]) -> Option<&'a TaskText> {
+/// The first task of this name.
+pub fn task_named<'a>(program: &'a Program, name: &[u8]) -> Option<&'a TaskText> {
     for task in program.tasks.as_slice() {
         if task.name.as_slice() == name {
             return Some(task);

@@ -14,22 +14,42 @@ const BLANK: &[u8] = b"a field is not left empty: write 0, or a number that stan
 
 // Whether all bytes are digits, and there is one.
 fn is_digits(bytes: &[u8]) -> bool {
-    !bytes.is_empty() && bytes.iter().all(|byte| byte.is_ascii_digit())
+    for byte in bytes {
+        if !byte.is_ascii_digit() {
+            return false;
+        }
+    }
+    !bytes.is_empty()
 }
 
 /// Whether a field has a digit.
 pub fn has_digit(bytes: &[u8]) -> bool {
-    bytes.iter().any(|byte| byte.is_ascii_digit())
+    for byte in bytes {
+        if byte.is_ascii_digit() {
+            return true;
+        }
+    }
+    false
 }
 
 /// Whether a field has a letter.
 pub fn has_letter(field: &[u8]) -> bool {
-    field.iter().any(|byte| byte.is_ascii_alphabetic())
+    for byte in field {
+        if byte.is_ascii_alphabetic() {
+            return true;
+        }
+    }
+    false
 }
 
 /// Whether a byte stands among these.
 pub fn has_byte(bytes: &[u8], wanted: u8) -> bool {
-    bytes.iter().any(|byte| *byte == wanted)
+    for byte in bytes {
+        if *byte == wanted {
+            return true;
+        }
+    }
+    false
 }
 
 // The bytes after a minus, if there is one.
@@ -51,18 +71,27 @@ fn is_blank(byte: u8) -> bool {
 
 /// Whether a field has no byte but blanks.
 pub fn is_empty(field: &[u8]) -> bool {
-    field.iter().all(|byte| is_blank(*byte))
+    for byte in field {
+        if !is_blank(*byte) {
+            return false;
+        }
+    }
+    true
 }
 
 // A field without the blanks around it.
 fn trimmed(field: &[u8]) -> &[u8] {
-    let front = field.iter().take_while(|byte| is_blank(**byte)).count();
-    let end = field
-        .iter()
-        .rev()
-        .take_while(|byte| is_blank(**byte))
-        .count();
-    match field.get(front..field.len().saturating_sub(end)) {
+    let mut front: usize = 0;
+    let mut end: usize = 0;
+    for (at, byte) in field.iter().enumerate() {
+        if !is_blank(*byte) {
+            if end == 0 {
+                front = at;
+            }
+            end = at.saturating_add(1);
+        }
+    }
+    match field.get(front..end) {
         Some(bytes) => bytes,
         None => &[],
     }
@@ -106,8 +135,7 @@ fn is_grouped(field: &[u8], mark: u8) -> bool {
 
 // Whether a field is a number with a mark between its thousands: `.` counts where it stands twice or more.
 fn is_thousands(field: &[u8]) -> bool {
-    let marks: [u8; 4] = [b',', b' ', b'\'', b'_'];
-    for mark in &marks {
+    for mark in b", '_" {
         if is_grouped(field, *mark) {
             return true;
         }
@@ -128,29 +156,40 @@ fn is_date(field: &[u8]) -> bool {
         || parts(field, b'.') == 3 && !is_grouped(field, b'.')
 }
 
+// Whether all bytes are digits, or stand among these marks.
+fn has_only(field: &[u8], marks: &[u8]) -> bool {
+    for byte in field {
+        if !byte.is_ascii_digit() && !has_byte(marks, *byte) {
+            return false;
+        }
+    }
+    true
+}
+
 // Whether all bytes are digits, points, commas or blanks, and there is a digit.
 fn is_amount(field: &[u8]) -> bool {
-    has_digit(field)
-        && field.iter().all(|byte| byte.is_ascii_digit() || matches!(*byte, b'.' | b',' | b' '))
+    has_digit(field) && has_only(field, b"., ")
 }
+
+// Signs and names of currencies.
+static SIGNS: [&[u8]; 11] = [
+    b"$",
+    b"\xc2\xa3",
+    b"\xc2\xa5",
+    b"\xe2\x82\xac",
+    b"EUR",
+    b"USD",
+    b"GBP",
+    b"CHF",
+    b"JPY",
+    b"kr",
+    b"Fr.",
+];
 
 // Whether a currency stands before or after a number.
 fn has_currency(field: &[u8]) -> bool {
-    let signs: [&[u8]; 11] = [
-        b"$",
-        b"\xc2\xa3",
-        b"\xc2\xa5",
-        b"\xe2\x82\xac",
-        b"EUR",
-        b"USD",
-        b"GBP",
-        b"CHF",
-        b"JPY",
-        b"kr",
-        b"Fr.",
-    ];
     let digits = unsigned(field);
-    for sign in &signs {
+    for sign in &SIGNS {
         let stands = digits.starts_with(sign) || digits.ends_with(sign);
         if stands && has_digit(digits) {
             return true;
@@ -161,26 +200,32 @@ fn has_currency(field: &[u8]) -> bool {
 
 // Whether a field is a number with an exponent.
 fn has_exponent(field: &[u8]) -> bool {
-    matches!(field, [b'0'..=b'9', ..])
-        && has_letter(field)
-        && field.iter().all(|byte| {
-            byte.is_ascii_digit() || matches!(*byte, b'.' | b',' | b'+' | b'-' | b'e' | b'E')
-        })
+    matches!(field, [b'0'..=b'9', ..]) && has_letter(field) && has_only(field, b".,+-eE")
+}
+
+// Whether a field is a plus and digits.
+fn has_plus(field: &[u8]) -> bool {
+    match field {
+        [b'+', rest @ ..] => is_digits(rest),
+        _ => false,
+    }
 }
 
 // What is told of quotes and of marks around a number.
 fn around_hint(field: &[u8]) -> Option<&'static [u8]> {
-    match field {
-        [b'+', rest @ ..] if is_digits(rest) => Some(b"a plus sign has to go"),
-        [b'(', .., b')'] if has_digit(field) => {
-            Some(b"an amount below 0 has a `-` before it, and no parentheses")
-        }
-        [_, .., b'-'] if has_digit(field) => Some(b"a `-` stands before its number"),
-        [.., b'%'] if has_digit(field) => {
-            Some(b"a percent sign has to go: rates in whole numbers of a smaller unit")
-        }
-        [b'0', b'x' | b'X', ..] => Some(b"numbers are decimal"),
-        _ => None,
+    let has_digit = has_digit(field);
+    if has_plus(field) {
+        Some(b"a plus sign has to go")
+    } else if has_digit && field.starts_with(b"(") && field.ends_with(b")") {
+        Some(b"an amount below 0 has a `-` before it, and no parentheses")
+    } else if has_digit && field.ends_with(b"-") {
+        Some(b"a `-` stands before its number")
+    } else if has_digit && field.ends_with(b"%") {
+        Some(b"a percent sign has to go: rates in whole numbers of a smaller unit")
+    } else if field.starts_with(b"0x") || field.starts_with(b"0X") {
+        Some(b"numbers are decimal")
+    } else {
+        None
     }
 }
 

@@ -3,7 +3,7 @@
 use crate::field_hints::{field_hint, has_byte, has_digit, has_letter, is_empty, is_whole};
 use crate::file_uses::{FileUse, bytes_in, fields_of};
 use crate::odd_bytes::{UTF_16, is_utf_16, push_odd_in};
-use crate::pieces::{push_between, push_words};
+use crate::pieces::{push_between, push_hint, push_words};
 use batch_files::FileKind;
 use csv::ByteRecord;
 use row_places::bad_field;
@@ -20,14 +20,15 @@ pub struct Refused<'a> {
     pub kind: FileKind,
 }
 
-// Appends a hint.
-fn push_told(text: &mut Vec<u8>, hint: &[u8]) -> Result<(), AllocError> {
-    push_words(text, b"hint: ", hint, b"\n")
-}
-
 // How often a byte stands in a line.
 fn count(line: &[u8], wanted: u8) -> u64 {
-    line.iter().filter(|byte| **byte == wanted).count() as u64
+    let mut count: u64 = 0;
+    for byte in line {
+        if *byte == wanted {
+            count = count.saturating_add(1);
+        }
+    }
+    count
 }
 
 // Appends that the fields of a line stand between other marks than commas, where they do.
@@ -129,16 +130,16 @@ fn push_count_hint(text: &mut Vec<u8>, refused: Refused<'_>) -> Result<(), Alloc
         return Ok(());
     }
     if let Some(hint) = line_hint(refused.row, refused.number) {
-        return push_told(text, hint);
+        return push_hint(text, hint);
     }
     if refused.row.len() == 1 && push_odd_in(text, bytes_in(refused.row, 0))? {
         return Ok(());
     }
     if let Some(hint) = count_hint(refused.row, refused.used) {
-        return push_told(text, hint);
+        return push_hint(text, hint);
     }
     match row_form(refused.used) {
-        Some(form) => push_told(text, form),
+        Some(form) => push_hint(text, form),
         None => Ok(()),
     }
 }
@@ -154,19 +155,19 @@ fn push_number_hint(
         return Ok(());
     }
     if let Some(hint) = line_hint(refused.row, refused.number) {
-        return push_told(text, hint);
+        return push_hint(text, hint);
     }
     let is_separated = has_byte(bytes, b';') || has_byte(bytes, b'\t') || has_byte(bytes, b'|');
     if is_separated && push_separator(text, refused.line)? {
         return Ok(());
     }
     if let Some(hint) = field_hint(bytes) {
-        return push_told(text, hint);
+        return push_hint(text, hint);
     }
     if push_odd_in(text, bytes)? || !has_letter(bytes) {
         return Ok(());
     }
-    push_told(text, b"a file holds numbers alone: give each name a number")
+    push_hint(text, b"a file holds numbers alone: give each name a number")
 }
 
 // What is told of a number outside of its range, or of a row that says what an earlier one says.
@@ -188,10 +189,10 @@ fn is_workbook(bytes: &[u8]) -> bool {
 /// Appends a hint on a row that is refused, where there is one.
 pub fn push_row_hint(text: &mut Vec<u8>, refused: Refused<'_>) -> Result<(), AllocError> {
     if is_utf_16(refused.bytes) {
-        return push_told(text, UTF_16);
+        return push_hint(text, UTF_16);
     }
     if is_workbook(refused.bytes) {
-        return push_told(
+        return push_hint(
             text,
             b"the file is a workbook, or is packed: save its sheet as CSV, text with commas",
         );
@@ -200,7 +201,7 @@ pub fn push_row_hint(text: &mut Vec<u8>, refused: Refused<'_>) -> Result<(), All
         (FileKind::Fields, _) => push_count_hint(text, refused),
         (FileKind::Number, Some(field)) => push_number_hint(text, refused, field),
         _ => match value_hint(refused) {
-            Some(hint) => push_told(text, hint),
+            Some(hint) => push_hint(text, hint),
             None => Ok(()),
         },
     }

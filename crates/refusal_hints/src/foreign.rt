@@ -40,7 +40,7 @@ pub const BLOCK: &[u8] = b"a block stands between `{` and `}`";
 const CLOSED: &[u8] = b"a block ends with `}`";
 
 // Words that begin what is a statement in other languages.
-const BEGINNINGS: [Row; 83] = [
+static BEGINNINGS: [Row; 83] = [
     (b"for", LOOP),
     (b"foreach", LOOP),
     (b"loop", LOOP),
@@ -130,7 +130,7 @@ const BEGINNINGS: [Row; 83] = [
 ];
 
 // Words that stand between the parts of an expression, or name functions, in other languages.
-const OPERATORS: [Row; 13] = [
+static OPERATORS: [Row; 13] = [
     (b"mod", b"write `a % b`"),
     (b"div", b"write `a / b`"),
     (b"xor", b"write `(a == 0) != (b == 0)`"),
@@ -151,7 +151,7 @@ const CONSTANT: &[u8] = b"there are no constants: write the number where it is u
 const ALONE: &[u8] = b"a program is one text: there is nothing to bring in";
 
 // Words that begin what stands outside of functions in other languages.
-const HEADS: [Row; 17] = [
+static HEADS: [Row; 17] = [
     (b"const", CONSTANT),
     (b"let", CONSTANT),
     (b"define", CONSTANT),
@@ -181,7 +181,7 @@ const GREATEST: &[u8] = b"`a + (b - a) * (b > a)` is the greater of two";
 const ROWS: &[u8] = b"`rows(f)` is the number of rows of feed f";
 
 // Names of functions.
-const FUNCTIONS: [Row; 8] = [
+static FUNCTIONS: [Row; 8] = [
     (b"min", LEAST),
     (b"max", GREATEST),
     (
@@ -197,11 +197,25 @@ const FUNCTIONS: [Row; 8] = [
 
 /// Whether two words are alike but for the case of their letters.
 pub fn are_alike(one: &[u8], other: &[u8]) -> bool {
-    one.len() == other.len()
-        && one
-            .iter()
-            .zip(other)
-            .all(|(a, b)| a.to_ascii_lowercase() == b.to_ascii_lowercase())
+    if one.len() != other.len() {
+        return false;
+    }
+    for at in 0..one.len() {
+        if one[at].to_ascii_lowercase() != other[at].to_ascii_lowercase() {
+            return false;
+        }
+    }
+    true
+}
+
+/// Whether a word is one of these.
+pub fn is_among(words: &[&[u8]], word: &[u8]) -> bool {
+    for other in words {
+        if **other == *word {
+            return true;
+        }
+    }
+    false
 }
 
 // What is told of a word in a table.
@@ -216,69 +230,71 @@ fn told_in(table: &[Row], word: &[u8]) -> Option<&'static [u8]> {
 
 /// What is written in place of a statement that begins with this word.
 pub fn beginning(word: &[u8]) -> Option<&'static [u8]> {
-    let table: [Row; 83] = BEGINNINGS;
-    told_in(&table, word)
+    told_in(&BEGINNINGS, word)
 }
 
 /// What is written in place of a head that begins with this word.
 pub fn head(word: &[u8]) -> Option<&'static [u8]> {
-    let table: [Row; 17] = HEADS;
-    told_in(&table, word)
+    told_in(&HEADS, word)
 }
 
 /// What is written in place of this word where an operator or the end of an expression could stand.
 pub fn operator(word: &[u8]) -> Option<&'static [u8]> {
-    let table: [Row; 13] = OPERATORS;
-    told_in(&table, word)
+    told_in(&OPERATORS, word)
 }
 
 /// What is written in place of a function of this name.
 pub fn function(word: &[u8]) -> Option<&'static [u8]> {
-    let table: [Row; 8] = FUNCTIONS;
-    told_in(&table, word)
+    told_in(&FUNCTIONS, word)
 }
 
 const NO_VALUE: &[u8] =
     b"every value is a number: `0`, or one that is nowhere else used, stands for none";
 
+// Names of values.
+static VALUES: [Row; 7] = [
+    (b"true", b"`1` and `0` stand for true and false"),
+    (b"false", b"`1` and `0` stand for true and false"),
+    (b"null", NO_VALUE),
+    (b"nil", NO_VALUE),
+    (b"none", NO_VALUE),
+    (b"undefined", NO_VALUE),
+    (b"nullptr", NO_VALUE),
+];
+
 /// What is written in place of a name that stands for a value in other languages.
 pub fn value(word: &[u8]) -> Option<&'static [u8]> {
-    let table: [Row; 7] = [
-        (b"true", b"`1` and `0` stand for true and false"),
-        (b"false", b"`1` and `0` stand for true and false"),
-        (b"null", NO_VALUE),
-        (b"nil", NO_VALUE),
-        (b"none", NO_VALUE),
-        (b"undefined", NO_VALUE),
-        (b"nullptr", NO_VALUE),
-    ];
-    told_in(&table, word)
+    told_in(&VALUES, word)
 }
+
+// Words of statements.
+static STATEMENTS: [Row; 7] = [
+    (b"lock", b"no parentheses: write `lock l[i];`"),
+    (b"unlock", b"no parentheses: write `unlock l[i];`"),
+    (b"barrier", b"no parentheses: write `barrier b;`"),
+    (
+        b"fork",
+        b"no parentheses around the task: write `fork t(e) into h;`",
+    ),
+    (b"settle", b"no parentheses: write `settle $x into c;`"),
+    (b"read", b"no parentheses: write `read r[i] into $x;`"),
+    (b"write", b"no parentheses: write `write r[i] = e;`"),
+];
 
 /// What is written in place of the form that the word of a statement has with parentheses in other languages.
 pub fn without_parentheses(word: &[u8]) -> Option<&'static [u8]> {
-    let table: [Row; 7] = [
-        (b"lock", b"no parentheses: write `lock l[i];`"),
-        (b"unlock", b"no parentheses: write `unlock l[i];`"),
-        (b"barrier", b"no parentheses: write `barrier b;`"),
-        (
-            b"fork",
-            b"no parentheses around the task: write `fork t(e) into h;`",
-        ),
-        (b"settle", b"no parentheses: write `settle $x into c;`"),
-        (b"read", b"no parentheses: write `read r[i] into $x;`"),
-        (b"write", b"no parentheses: write `write r[i] = e;`"),
-    ];
-    told_in(&table, word)
+    told_in(&STATEMENTS, word)
 }
+
+// Words of statements that give a value.
+static GIVING: [Row; 4] = [
+    (b"read", b"write `read r[i] into $x;`"),
+    (b"fork", b"write `fork t(e) into h;`"),
+    (b"join", b"write `join h into $x;`"),
+    (b"settle", b"write `settle $x into c;`"),
+];
 
 /// How a statement is written that gives a value, and stands where an expression is expected.
 pub fn giving(word: &[u8]) -> Option<&'static [u8]> {
-    let table: [Row; 4] = [
-        (b"read", b"write `read r[i] into $x;`"),
-        (b"fork", b"write `fork t(e) into h;`"),
-        (b"join", b"write `join h into $x;`"),
-        (b"settle", b"write `settle $x into c;`"),
-    ];
-    told_in(&table, word)
+    told_in(&GIVING, word)
 }

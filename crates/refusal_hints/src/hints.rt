@@ -9,20 +9,11 @@ use crate::spelling::push_name;
 use crate::unknown_hints::{push_no_array, push_no_main, push_unknown};
 use gp_base::Name;
 use rule_blame::{Blame, Role, Told};
-use std::alloc::{AllocError, Global};
+use std::alloc::AllocError;
 use task_ast::{CheckKind, Head, Param, Program, TaskText, What};
 
 /// What is told where a comment of another language begins.
 pub const COMMENT: &[u8] = b"a comment begins with `#`";
-
-/// A hint as a line, or nothing.
-pub fn hint_line(alloc: Global, hint: Option<&[u8]>) -> Result<Vec<u8>, AllocError> {
-    let mut text = Vec::new(alloc);
-    if let Some(hint) = hint {
-        push_words(&mut text, b"hint: ", hint, b"\n")?;
-    }
-    Ok(text)
-}
 
 /// Appends a line that tells a name which is declared.
 pub fn push_declared(text: &mut Vec<u8>, role: Role, name: &Name) -> Result<(), AllocError> {
@@ -64,124 +55,99 @@ pub fn is_near(one: &[u8], other: &[u8]) -> bool {
     alike > 0 && longer - alike <= 2
 }
 
-// Appends the first variable of these that is near a name, or has it as the other kind of variable.
-fn push_near_param(
-    text: &mut Vec<u8>,
-    params: &[Param],
-    role: Role,
-    name: &Name,
-) -> Result<bool, AllocError> {
+/// The role and the name of a variable.
+pub fn variable(param: &Param) -> (Role, &Name) {
+    match param {
+        Param::Ctl(name) => (Role::Control, name),
+        Param::Reg(name) => (Role::Data, name),
+    }
+}
+
+/// The name of a head.
+pub fn name_of(head: &Head) -> &Name {
+    match head {
+        Head::LockHead { name, .. }
+        | Head::BarrierHead { name, .. }
+        | Head::RecHead { name, .. }
+        | Head::FeedHead { name, .. } => name,
+    }
+}
+
+// What a head declares.
+fn role_of(head: &Head) -> Role {
+    match head {
+        Head::LockHead { .. } => Role::LockArray,
+        Head::BarrierHead { .. } => Role::Barrier,
+        Head::RecHead { .. } => Role::Record,
+        Head::FeedHead { .. } => Role::Feed,
+    }
+}
+
+/// A name that is declared, and as what.
+pub type Found<'a> = (Role, &'a Name);
+
+// The first variable of these that is near a name, or has it as the other kind of variable.
+fn near_param<'a>(params: &'a [Param], role: Role, name: &Name) -> Option<Found<'a>> {
     for param in params {
-        let (found, other) = match param {
-            Param::Ctl(x) => (Role::Control, x),
-            Param::Reg(x) => (Role::Data, x),
-        };
+        let (found, other) = variable(param);
         let same = other.as_slice() == name.as_slice();
         if same || found == role && is_near(other.as_slice(), name.as_slice()) {
-            push_declared(text, found, other)?;
-            return Ok(true);
+            return Some((found, other));
         }
     }
-    Ok(false)
+    None
 }
 
 // The same of all variables of a task.
-fn push_near_variable(
-    text: &mut Vec<u8>,
-    task: &TaskText,
-    role: Role,
-    name: &Name,
-) -> Result<bool, AllocError> {
-    if push_near_param(text, task.params.as_slice(), role, name)? {
-        return Ok(true);
+fn near_variable<'a>(task: &'a TaskText, role: Role, name: &Name) -> Option<Found<'a>> {
+    if let Some(found) = near_param(task.params.as_slice(), role, name) {
+        return Some(found);
     }
     for vars in task.vars.as_slice() {
-        if push_near_param(text, vars.names.as_slice(), role, name)? {
-            return Ok(true);
+        if let Some(found) = near_param(vars.names.as_slice(), role, name) {
+            return Some(found);
         }
     }
-    Ok(false)
+    None
 }
 
-/// The name of a head, where it is of the role.
-pub fn head_name(head: &Head, role: Role) -> Option<&Name> {
-    match head {
-        Head::LockHead { name, .. } => if role == Role::LockArray {
-            Some(name)
-        } else {
-            None
-        },
-        Head::BarrierHead { name, .. } => if role == Role::Barrier {
-            Some(name)
-        } else {
-            None
-        },
-        Head::RecHead { name, .. } => if role == Role::Record {
-            Some(name)
-        } else {
-            None
-        },
-        Head::FeedHead { name, .. } => if role == Role::Feed { Some(name) } else { None },
-    }
-}
-
-/// Appends the first head of the role that is near a name.
-pub fn push_near_head(
-    text: &mut Vec<u8>,
-    heads: &[Head],
-    role: Role,
-    name: &Name,
-) -> Result<bool, AllocError> {
+/// The first head of the role that is near a name.
+pub fn near_head<'a>(heads: &'a [Head], role: Role, name: &Name) -> Option<Found<'a>> {
     for head in heads {
-        if let Some(other) = head_name(head, role) {
-            if is_near(other.as_slice(), name.as_slice()) {
-                push_declared(text, role, other)?;
-                return Ok(true);
-            }
+        let other = name_of(head);
+        if role_of(head) == role && is_near(other.as_slice(), name.as_slice()) {
+            return Some((role, other));
         }
     }
-    Ok(false)
+    None
 }
 
-// Appends the first task that is near a name.
-fn push_near_task(text: &mut Vec<u8>, program: &Program, name: &Name) -> Result<bool, AllocError> {
+/// The first task that is near a name.
+pub fn near_task<'a>(program: &'a Program, name: &[u8]) -> Option<Found<'a>> {
     for other in program.tasks.as_slice() {
-        if is_near(other.name.as_slice(), name.as_slice()) {
-            push_declared(text, Role::Task, &other.name)?;
-            return Ok(true);
+        if is_near(other.name.as_slice(), name) {
+            return Some((Role::Task, &other.name));
         }
     }
-    Ok(false)
+    None
 }
 
-// Appends the first variable of a task that is near a name.
-fn push_near_in(
-    text: &mut Vec<u8>,
-    program: &Program,
-    role: Role,
-    name: &Name,
-    task: &Name,
-) -> Result<bool, AllocError> {
+// The first variable of a task that is near a name.
+fn near_in<'a>(program: &'a Program, role: Role, name: &Name, task: &Name) -> Option<Found<'a>> {
     for other in program.tasks.as_slice() {
         if other.name.as_slice() == task.as_slice() {
-            return push_near_variable(text, other, role, name);
+            return near_variable(other, role, name);
         }
     }
-    Ok(false)
+    None
 }
 
-/// Appends what of the role is near a name.
-pub fn push_near(
-    text: &mut Vec<u8>,
-    program: &Program,
-    role: Role,
-    name: &Name,
-    task: &Name,
-) -> Result<bool, AllocError> {
+/// What of the role is near a name.
+pub fn near<'a>(program: &'a Program, role: Role, name: &Name, task: &Name) -> Option<Found<'a>> {
     match role {
-        Role::Control | Role::Data => push_near_in(text, program, role, name, task),
-        Role::Task => push_near_task(text, program, name),
-        _ => push_near_head(text, program.heads.as_slice(), role, name),
+        Role::Control | Role::Data => near_in(program, role, name, task),
+        Role::Task => near_task(program, name.as_slice()),
+        _ => near_head(program.heads.as_slice(), role, name),
     }
 }
 
@@ -214,27 +180,22 @@ fn push_ways(text: &mut Vec<u8>, told: &Told<'_>, name: &Name) -> Result<(), All
     )
 }
 
-/// The hints on a line that breaks a rule of the check, and before them what is held where a lock is missing.
-pub fn check_hints(
-    alloc: Global,
+/// Appends the hints on a line that breaks a rule of the check, and before them what is held where a lock is missing.
+pub fn push_check_hints(
+    text: &mut Vec<u8>,
     program: &Program,
     kind: CheckKind,
-    told: &Option<Told<'_>>,
-) -> Result<Vec<u8>, AllocError> {
-    let mut text = Vec::new(alloc);
-    let Some(told) = told else {
-        return Ok(text);
-    };
-    push_lock_hints(&mut text, program, kind, told)?;
+    told: &Told<'_>,
+) -> Result<(), AllocError> {
+    push_lock_hints(text, program, kind, told)?;
     match told.blame {
-        Blame::NoMain => push_no_main(&mut text, program)?,
-        Blame::Unknown { role, name, task } => push_unknown(&mut text, program, role, name, task)?,
-        Blame::NoArray { array } => push_no_array(&mut text, program, array)?,
-        Blame::Data { name } => push_ways(&mut text, told, name)?,
-        Blame::MainTakes => push_main_starts(&mut text)?,
-        Blame::Counts { task, .. } => push_takes(&mut text, program, task)?,
-        Blame::Sizes { array, other, .. } => push_lock_head(&mut text, program, array, other)?,
-        _ => {}
+        Blame::NoMain => push_no_main(text, program),
+        Blame::Unknown { role, name, task } => push_unknown(text, program, role, name, task),
+        Blame::NoArray { array } => push_no_array(text, program, array),
+        Blame::Data { name } => push_ways(text, told, name),
+        Blame::MainTakes => push_main_starts(text),
+        Blame::Counts { task, .. } => push_takes(text, program, task),
+        Blame::Sizes { array, other, .. } => push_lock_head(text, program, array, other),
+        _ => Ok(()),
     }
-    Ok(text)
 }

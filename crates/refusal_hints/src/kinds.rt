@@ -5,7 +5,7 @@ use std::alloc::{AllocError, Global};
 use task_parser::Kind;
 
 // Kinds by which an expression begins: a number, a name, a data variable, `-`, `not`, `self`, `rows`, `(`.
-const EXPRESSION: [Kind; 8] = [
+static EXPRESSION: [Kind; 8] = [
     Kind::Num(1),
     Kind::Name,
     Kind::Reg,
@@ -17,7 +17,7 @@ const EXPRESSION: [Kind; 8] = [
 ];
 
 // Kinds by which a data statement begins: a data variable, `read`, `write`, `print`, `when`.
-const DATA_STATEMENT: [Kind; 5] = [
+static DATA_STATEMENT: [Kind; 5] = [
     Kind::Reg,
     Kind::Word(15),
     Kind::Word(16),
@@ -27,7 +27,7 @@ const DATA_STATEMENT: [Kind; 5] = [
 
 // Kinds by which any statement begins: those, and a name, `while`, `if`, `lock`, `unlock`, `fork`, `join`, `barrier`,
 // `settle`.
-const STATEMENT: [Kind; 14] = [
+static STATEMENT: [Kind; 14] = [
     Kind::Reg,
     Kind::Word(15),
     Kind::Word(16),
@@ -45,10 +45,10 @@ const STATEMENT: [Kind; 14] = [
 ];
 
 // `lock`, `barrier`, `record`, `feed`.
-const HEAD: [Kind; 4] = [Kind::Word(0), Kind::Word(2), Kind::Word(3), Kind::Word(6)];
+static HEAD: [Kind; 4] = [Kind::Word(0), Kind::Word(2), Kind::Word(3), Kind::Word(6)];
 
 // The operators that are no comparisons: `or`, `and`, `+`, `-`, `*`, `/`, `%`.
-const JOINING: [Kind; 7] = [
+static JOINING: [Kind; 7] = [
     Kind::Word(20),
     Kind::Word(19),
     Kind::Mark(15),
@@ -59,7 +59,7 @@ const JOINING: [Kind; 7] = [
 ];
 
 // All operators: those, and `==`, `!=`, `<`, `<=`, `>`, `>=`.
-const OPERATOR: [Kind; 13] = [
+static OPERATOR: [Kind; 13] = [
     Kind::Word(20),
     Kind::Word(19),
     Kind::Mark(15),
@@ -109,7 +109,7 @@ enum Group {
 }
 
 // The groups in the order in which they are looked for.
-const GROUPS: [Group; 8] = [
+static GROUPS: [Group; 8] = [
     Group::Expression,
     Group::Statement,
     Group::DataStatement,
@@ -167,8 +167,7 @@ fn without(alloc: Global, kinds: &[Kind], group: &[Kind]) -> Result<Vec<Kind>, A
 fn groups_in(alloc: Global, kinds: &[Kind]) -> Result<Named, AllocError> {
     let mut left = Vec::from_slice(alloc, kinds)?;
     let mut groups = Vec::new(alloc);
-    let all: [Group; 8] = GROUPS;
-    for group in &all {
+    for group in &GROUPS {
         let members = kinds_of(*group);
         if has_all(&left, members) {
             left = without(alloc, &left, members)?;
@@ -192,14 +191,16 @@ fn push_joint(text: &mut Vec<u8>, at: usize, count: usize) -> Result<(), AllocEr
     }
 }
 
-// Appends the names, the single kinds first.
+// Appends what was expected by its names, the single kinds first.
 fn push_named(text: &mut Vec<u8>, named: &Named) -> Result<(), AllocError> {
+    text.extend_from_slice(b"; ")?;
     let count = named.kinds.len().saturating_add(named.groups.len());
     for (at, kind) in named.kinds.as_slice().iter().enumerate() {
         push_joint(text, at, count)?;
         push_kind(text, *kind)?;
     }
-    push_groups(text, named, count)
+    push_groups(text, named, count)?;
+    text.extend_from_slice(b" was expected")
 }
 
 fn push_groups(text: &mut Vec<u8>, named: &Named, count: usize) -> Result<(), AllocError> {
@@ -216,7 +217,5 @@ pub fn push_expected(alloc: Global, text: &mut Vec<u8>, kinds: &[Kind]) -> Resul
         return Ok(());
     }
     let named = groups_in(alloc, kinds)?;
-    text.extend_from_slice(b"; ")?;
-    push_named(text, &named)?;
-    text.extend_from_slice(b" was expected")
+    push_named(text, &named)
 }

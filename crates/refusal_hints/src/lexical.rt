@@ -1,9 +1,11 @@
 // What to write in place of a byte that can't stand where it does.
 
-use crate::foreign::{BLOCK, beginning};
-use crate::hints::{COMMENT, hint_line};
+use crate::foreign::{BLOCK, beginning, is_among};
+use crate::hints::COMMENT;
+use crate::lexing::digits;
 use crate::odd_bytes::{Place, UTF_16, is_utf_16, push_odd};
-use std::alloc::{AllocError, Global};
+use crate::pieces::push_hint;
+use std::alloc::AllocError;
 use text_places::{is_quoted_at, line_before};
 
 const CENTS: &[u8] = b"numbers are whole: write amounts in cents";
@@ -14,6 +16,13 @@ const ROWS: &[u8] = b"no name has fields: `rows(f)` is the number of rows of fee
 
 const FIELDS: &[u8] =
     b"no name has fields: a cell of a feed is `f[i, 0]`, and one of a record is read by `read r[i] into $x;`";
+
+static COUNTS: [&[u8]; 5] = [b".rows", b".len", b".size", b".count", b".num"];
+
+static LOCKS: [&[u8]; 2] = [b".lock", b".unlock"];
+
+// Words after which a block begins.
+static HEADS: [&[u8]; 4] = [b"if", b"else", b"while", b"when"];
 
 // Whether the bytes before a place in its line have two slashes, or a slash and a star, in a row.
 fn is_after_slashes(program: &[u8], at: usize) -> bool {
@@ -38,7 +47,7 @@ fn is_letter(byte: Option<&u8>) -> bool {
 // Whether a digit stands before a place, and three and no more after the byte there, as around a mark between thousands.
 fn is_between_thousands(program: &[u8], at: usize) -> bool {
     let digits = match program.get(at.saturating_add(1)..) {
-        Some(rest) => rest.iter().take_while(|byte| byte.is_ascii_digit()).count(),
+        Some(rest) => digits(rest),
         None => 0,
     };
     digits == 3 && is_digit(program.get(at.saturating_sub(1)))
@@ -69,9 +78,6 @@ fn point_hint(program: &[u8], at: usize) -> &'static [u8] {
     let rest = &program[at.min(program.len())..];
     let before = program.get(at.saturating_sub(1));
     let after = rest.get(1);
-    let locks: [&[u8]; 2] = [b".lock", b".unlock"];
-    let joins: [&[u8]; 1] = [b".join"];
-    let counts: [&[u8]; 5] = [b".rows", b".len", b".size", b".count", b".num"];
     if names_file(line_before(program, at)) {
         b"the name of a file stands in double quotes"
     } else if before == Some(&b'.') || after == Some(&b'.') {
@@ -80,11 +86,11 @@ fn point_hint(program: &[u8], at: usize) -> &'static [u8] {
         GROUPED
     } else if is_digit(before) || is_digit(after) {
         CENTS
-    } else if begins_with(rest, &counts) {
+    } else if begins_with(rest, &COUNTS) {
         ROWS
-    } else if begins_with(rest, &joins) {
+    } else if rest.starts_with(b".join") {
         b"write `join h into $x;`, or `join h;`"
-    } else if begins_with(rest, &locks) {
+    } else if begins_with(rest, &LOCKS) {
         b"write `lock l[i]; .. unlock l[i];`"
     } else if is_letter(after) {
         FIELDS
@@ -93,49 +99,44 @@ fn point_hint(program: &[u8], at: usize) -> &'static [u8] {
     }
 }
 
-// How many bytes at the front are spaces, or ends of blocks.
-fn margin(line: &[u8]) -> usize {
-    line.iter()
-        .take_while(|byte| matches!(**byte, b' ' | b'\t' | b'}'))
-        .count()
+// The bytes after those at the front that are spaces, or ends of blocks.
+fn after_margin(line: &[u8]) -> &[u8] {
+    for at in 0..line.len() {
+        if !matches!(line[at], b' ' | b'\t' | b'}') {
+            return &line[at..];
+        }
+    }
+    &[]
 }
 
 // The first word of a line.
 fn first_word(line: &[u8]) -> &[u8] {
-    let Some(rest) = line.get(margin(line)..) else {
-        return &[];
-    };
-    let length = rest
-        .iter()
-        .take_while(|byte| is_letter(Some(*byte)))
-        .count();
-    match rest.get(..length) {
-        Some(word) => word,
-        None => &[],
+    let rest = after_margin(line);
+    for at in 0..rest.len() {
+        if !is_letter(rest.get(at)) {
+            return &rest[..at];
+        }
     }
+    rest
 }
 
 // Whether the bytes at a place are the rest of a line without a mark.
 fn ends_line(program: &[u8], at: usize) -> bool {
-    match program.get(at..) {
-        Some(rest) => {
-            let spaces = rest.iter().take_while(|byte| **byte == b' ').count();
-            matches!(rest.get(spaces), None | Some(b'\n' | b'\r' | b'#'))
+    let Some(rest) = program.get(at..) else {
+        return true;
+    };
+    for byte in rest {
+        if *byte != b' ' {
+            return matches!(*byte, b'\n' | b'\r' | b'#');
         }
-        None => true,
     }
+    true
 }
 
 // Whether a `:` after these bytes of its line begins a block in other languages.
 fn begins_block(line: &[u8]) -> bool {
-    let words: [&[u8]; 4] = [b"if", b"else", b"while", b"when"];
     let word = first_word(line);
-    for other in &words {
-        if **other == *word {
-            return true;
-        }
-    }
-    word.starts_with(b"task") && line.ends_with(b")")
+    is_among(&HEADS, word) || word.starts_with(b"task") && line.ends_with(b")")
 }
 
 // What to write in place of a `:`.
@@ -189,19 +190,21 @@ fn plain_hint(program: &[u8], at: usize) -> Option<&'static [u8]> {
     }
 }
 
-/// The hints on a byte that can't stand where it is shown.
-pub fn lex_hints(alloc: Global, program: &[u8], at: usize) -> Result<Vec<u8>, AllocError> {
+/// Appends the hints on a byte that can't stand where it is shown.
+pub fn push_lex_hints(text: &mut Vec<u8>, program: &[u8], at: usize) -> Result<(), AllocError> {
     if is_utf_16(program) {
-        return hint_line(alloc, Some(UTF_16));
+        return push_hint(text, UTF_16);
     }
     if is_after_slashes(program, at) {
-        return hint_line(alloc, Some(COMMENT));
+        return push_hint(text, COMMENT);
     }
-    let mut text = Vec::new(alloc);
     if let Some(rest) = program.get(at..) {
-        if push_odd(&mut text, rest, Place::Program)? {
-            return Ok(text);
+        if push_odd(text, rest, Place::Program)? {
+            return Ok(());
         }
     }
-    hint_line(alloc, plain_hint(program, at))
+    match plain_hint(program, at) {
+        Some(hint) => push_hint(text, hint),
+        None => Ok(()),
+    }
 }

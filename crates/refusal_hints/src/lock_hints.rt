@@ -40,23 +40,27 @@ fn push_given(text: &mut Vec<u8>, lock: Spelt<'_>, past: Past) -> Result<bool, A
     Ok(true)
 }
 
-// Appends that a lock of the same array is held by another index, and whether one is.
-fn push_other_index(
-    text: &mut Vec<u8>,
-    held: &[Taken<'_>],
-    lock: Spelt<'_>,
-) -> Result<bool, AllocError> {
+// The first lock of an array that is held.
+fn held_of<'a>(held: &[Taken<'a>], array: &Name) -> Option<Taken<'a>> {
     for taken in held {
-        if taken.array.as_slice() == lock.array.as_slice() {
-            text.extend_from_slice(b"hint: ")?;
-            push_taken(text, taken)?;
-            text.extend_from_slice(b" and ")?;
-            push_cell(text, lock.array, lock.index)?;
-            text.extend_from_slice(b" count as two locks, even where both indices are equal\n")?;
-            return Ok(true);
+        if taken.array.as_slice() == array.as_slice() {
+            return Some(*taken);
         }
     }
-    Ok(false)
+    None
+}
+
+// Appends that a lock of the same array is held by another index.
+fn push_other_index(
+    text: &mut Vec<u8>,
+    taken: &Taken<'_>,
+    lock: Spelt<'_>,
+) -> Result<(), AllocError> {
+    text.extend_from_slice(b"hint: ")?;
+    push_taken(text, taken)?;
+    text.extend_from_slice(b" and ")?;
+    push_cell(text, lock.array, lock.index)?;
+    text.extend_from_slice(b" count as two locks, even where both indices are equal\n")
 }
 
 // The line that declares a record.
@@ -105,11 +109,9 @@ fn push_missing(
     if push_given(text, lock, past_of(program, told, lock))? {
         return Ok(());
     }
-    if push_other_index(text, &told.held, lock)? {
-        return Ok(());
-    }
-    match told.blame {
-        Blame::Unguarded { cells, .. } => push_guard(text, program, cells, lock),
+    match (held_of(&told.held, lock.array), told.blame) {
+        (Some(taken), _) => push_other_index(text, &taken, lock),
+        (None, Blame::Unguarded { cells, .. }) => push_guard(text, program, cells, lock),
         _ => Ok(()),
     }
 }

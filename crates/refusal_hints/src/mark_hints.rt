@@ -4,8 +4,9 @@ use crate::hints::COMMENT;
 use crate::spots::{
     ASSIGN, BARRIER, CLOSE_BLOCK, CLOSE_BRACKET, CLOSE_PAREN, COMMA, EQUAL, FORK, GREATER, JOIN,
     LESS, LOCK, MINUS, OPEN_BLOCK, PERCENT, PLUS, PRINT, READ, SEMICOLON, SLASH, Spot, TASK,
-    UNLOCK, WRITE, is_arithmetic, is_comparison,
+    UNLOCK, WRITE, are_joined, is_arithmetic, is_comparison,
 };
+use crate::told_hints::{Told, told_of};
 use task_parser::Kind;
 
 /// What is told of a second index.
@@ -19,6 +20,33 @@ pub const WRITTEN: &[u8] = b"write `write r[i] = e;`";
 
 /// What is told of a number with something else in it.
 pub const DIGITS: &[u8] = b"a number has digits alone, as `1000`";
+
+const ONE_LOCK: &[u8] = b"each lock has a statement of its own: `lock l[0]; lock l[1];`";
+
+const ONE_CELL: &[u8] =
+    b"each cell has a statement of its own: `read r[0] into $x; read r[1] into $y;`";
+
+// How statements begin, and what is told of a comma after what stands alone in them.
+static LISTED: [Told; 9] = [
+    (
+        JOIN,
+        b"each thread has a `join` of its own: `join g; join h;`",
+    ),
+    (
+        FORK,
+        b"each thread has a `fork` of its own: `fork t(1); fork t(2);`",
+    ),
+    (LOCK, ONE_LOCK),
+    (UNLOCK, ONE_LOCK),
+    (
+        BARRIER,
+        b"each barrier has a statement of its own: `barrier a; barrier b;`",
+    ),
+    (READ, ONE_CELL),
+    (WRITE, ONE_CELL),
+    (Kind::Name, ONE_VARIABLE),
+    (Kind::Reg, ONE_VARIABLE),
+];
 
 // How a variable is set to itself and something, for a mark of arithmetic.
 fn changed(kind: Kind) -> &'static [u8] {
@@ -35,34 +63,30 @@ impl<'a> Spot<'a> {
     // Two slashes, or a slash and a star.
     fn is_slashed(&self) -> bool {
         let star = matches!(self.kind_after(), Some(Kind::Mark(17 | 18)));
-        self.kind() == Some(SLASH)
-            && (self.kind_before() == Some(SLASH) || star && self.is_joined_after())
+        self.is(SLASH) && (self.follows(SLASH) || star && self.is_joined_after())
     }
 
     // Two minuses in a row, with a space after them.
     fn is_dashed(&self) -> bool {
-        let is_double = self.kind() == Some(MINUS)
-            && self.kind_after() == Some(MINUS)
-            && self.is_joined_after();
-        match (
-            self.after(),
-            self.place.tokens.get(self.place.number.saturating_add(2)),
-        ) {
-            (Some(after), Some(third)) => is_double && after.to != third.from,
-            _ => is_double,
-        }
+        self.is(MINUS)
+            && self.precedes(MINUS)
+            && self.is_joined_after()
+            && !are_joined(
+                self.after(),
+                self.place.tokens.get(self.place.number.saturating_add(2)),
+            )
     }
 
     // A comment of another language.
     fn is_comment(&self) -> bool {
         let is_first = self.has(READ) || self.has(TASK);
-        self.is_slashed() || is_first && (self.is_dashed() || self.kind() == Some(PERCENT))
+        self.is_slashed() || is_first && (self.is_dashed() || self.is(PERCENT))
     }
 
     // Whether this token is a minus inside what would be a name in other languages.
     fn is_hyphen(&self) -> bool {
-        self.kind() == Some(MINUS)
-            && self.kind_before() == Some(Kind::Name)
+        self.is(MINUS)
+            && self.follows(Kind::Name)
             && matches!(self.kind_after(), Some(Kind::Name | Kind::Word(_)))
             && self.is_joined()
             && self.is_joined_after()
@@ -71,7 +95,7 @@ impl<'a> Spot<'a> {
 
     // Whether this token is a comma inside of a number.
     fn is_inside_number(&self) -> bool {
-        self.kind() == Some(COMMA)
+        self.is(COMMA)
             && matches!(self.kind_before(), Some(Kind::Num(_)))
             && matches!(self.kind_after(), Some(Kind::Num(_)))
             && self.is_joined()
@@ -80,7 +104,7 @@ impl<'a> Spot<'a> {
 
     /// Whether the token before this one is the `]` of what a `write` sets.
     pub fn is_written(&self) -> bool {
-        self.is_in(WRITE) && self.kind_before() == Some(CLOSE_BRACKET)
+        self.is_in(WRITE) && self.follows(CLOSE_BRACKET)
     }
 
     // A form by the marks at the token.
@@ -90,15 +114,11 @@ impl<'a> Spot<'a> {
             Some(COMMENT)
         } else if self.is_hyphen() {
             Some(b"a name has letters, digits and `_`")
-        } else if is_arithmetic(self.kind()) && self.wants(ASSIGN) && self.is_written() {
-            Some(b"write `read r[i] into $x; write r[i] = $x + e;`")
-        } else if is_arithmetic(self.kind()) && (self.wants(ASSIGN) || self.has(READ)) {
-            Some(changed(kind))
-        } else if is_arithmetic(self.kind()) {
-            self.doubled_hint(kind)
+        } else if is_arithmetic(kind) {
+            self.arithmetic_hint(kind)
         } else if kind == ASSIGN {
             self.assign_hint()
-        } else if is_comparison(self.kind()) {
+        } else if is_comparison(kind) {
             self.comparison_hint(kind)
         } else if kind == SEMICOLON {
             self.end_hint()
@@ -109,16 +129,27 @@ impl<'a> Spot<'a> {
         }
     }
 
+    // A mark of arithmetic: where something is set, where a statement begins, or in an expression.
+    fn arithmetic_hint(&self, kind: Kind) -> Option<&'static [u8]> {
+        if self.wants(ASSIGN) && self.is_written() {
+            Some(b"write `read r[i] into $x; write r[i] = $x + e;`")
+        } else if self.wants(ASSIGN) || self.has(READ) {
+            Some(changed(kind))
+        } else {
+            self.doubled_hint(kind)
+        }
+    }
+
     // A mark of arithmetic that can't stand in an expression.
     fn doubled_hint(&self, kind: Kind) -> Option<&'static [u8]> {
-        let is_doubled = self.kind_before() == Some(kind);
+        let is_doubled = self.follows(kind);
         match kind {
             Kind::Mark(15) if is_doubled => Some(changed(PLUS)),
             Kind::Mark(15) if self.has(MINUS) => Some(
                 b"no `+` stands before a number: leave it out",
             ),
             Kind::Mark(17) if is_doubled => Some(b"there is no power: write `a * a`"),
-            Kind::Mark(16) if self.wants(OPEN_BLOCK) && self.kind_after() == Some(GREATER) => {
+            Kind::Mark(16) if self.wants(OPEN_BLOCK) && self.precedes(GREATER) => {
                 Some(b"what a task gives back is its `$ret`: `task t(x) { .. $ret = 3; }`")
             }
             _ => None,
@@ -128,15 +159,15 @@ impl<'a> Spot<'a> {
     // A `;` that can't stand: after a block or before one, after another, or after two minuses.
     fn end_hint(&self) -> Option<&'static [u8]> {
         let is_after_minus = matches!(self.back(2), Some(token) if token.kind == MINUS);
-        if self.kind_before() == Some(CLOSE_BLOCK) {
+        if self.follows(CLOSE_BLOCK) {
             Some(b"no `;` stands after a block")
-        } else if self.kind_before() == Some(SEMICOLON) {
+        } else if self.follows(SEMICOLON) {
             Some(b"one `;` is enough: the second has to go")
         } else if self.has(OPEN_BLOCK) {
             Some(b"no `;` stands before a block")
-        } else if self.kind_before() == Some(MINUS) && is_after_minus {
+        } else if self.follows(MINUS) && is_after_minus {
             Some(changed(MINUS))
-        } else if self.kind_before() == Some(PERCENT) {
+        } else if self.follows(PERCENT) {
             Some(b"`a % b` is the rest of a division; rates are whole numbers in a smaller unit")
         } else {
             None
@@ -146,7 +177,7 @@ impl<'a> Spot<'a> {
     // A `=` that can't stand.
     fn assign_hint(&self) -> Option<&'static [u8]> {
         let is_order = matches!(self.kind_after(), Some(Kind::Mark(11 | 13)));
-        if is_comparison(self.kind_before()) && self.is_joined() {
+        if self.follows_comparison() && self.is_joined() {
             Some(b"`==` and `!=` are all there is to compare for equality")
         } else if is_order && self.is_joined_after() {
             Some(b"write `<=` or `>=`")
@@ -172,7 +203,7 @@ impl<'a> Spot<'a> {
 
     // A comparison that can't stand.
     fn comparison_hint(&self, kind: Kind) -> Option<&'static [u8]> {
-        if kind == GREATER && self.kind_before() == Some(LESS) {
+        if kind == GREATER && self.follows(LESS) {
             Some(b"write `!=`")
         } else if self.wants(ASSIGN) {
             Some(b"`=` sets, and `==` compares")
@@ -207,16 +238,6 @@ impl<'a> Spot<'a> {
         if !self.is_after_task() {
             return Some(b"a head declares one name: `lock a[4]; lock b[2];`");
         }
-        match self.first()?.kind {
-            JOIN => Some(b"each thread has a `join` of its own: `join g; join h;`"),
-            FORK => Some(b"each thread has a `fork` of its own: `fork t(1); fork t(2);`"),
-            LOCK | UNLOCK => Some(b"each lock has a statement of its own: `lock l[0]; lock l[1];`"),
-            BARRIER => Some(b"each barrier has a statement of its own: `barrier a; barrier b;`"),
-            READ | WRITE => Some(
-                b"each cell has a statement of its own: `read r[0] into $x; read r[1] into $y;`",
-            ),
-            Kind::Name | Kind::Reg => Some(ONE_VARIABLE),
-            _ => None,
-        }
+        told_of(&LISTED, self.first()?.kind)
     }
 }

@@ -8,6 +8,19 @@ use rule_blame::{Blame, Many, Role, Taken};
 use std::alloc::AllocError;
 use task_ast::Program;
 
+// What is said of a name that isn't declared as this; before the task, of a variable.
+fn is_no(role: Role) -> &'static [u8] {
+    match role {
+        Role::LockArray => b" is no lock array",
+        Role::Record => b" is no record",
+        Role::Feed => b" is no feed",
+        Role::Barrier => b" is no barrier",
+        Role::Task => b" is no task",
+        Role::Control => b" is no control variable of task ",
+        Role::Data => b" is no data variable of task ",
+    }
+}
+
 // Appends that a name isn't declared as what its place needs.
 fn push_unknown(
     text: &mut Vec<u8>,
@@ -16,19 +29,10 @@ fn push_unknown(
     task: &Name,
 ) -> Result<(), AllocError> {
     push_name(text, role, name)?;
+    text.extend_from_slice(is_no(role))?;
     match role {
-        Role::LockArray => text.extend_from_slice(b" is no lock array"),
-        Role::Record => text.extend_from_slice(b" is no record"),
-        Role::Feed => text.extend_from_slice(b" is no feed"),
-        Role::Barrier => text.extend_from_slice(b" is no barrier"),
-        Role::Task => text.extend_from_slice(b" is no task"),
-        Role::Control => push_words(
-            text,
-            b" is no control variable of task ",
-            task.as_slice(),
-            b"",
-        ),
-        Role::Data => push_words(text, b" is no data variable of task ", task.as_slice(), b""),
+        Role::Control | Role::Data => text.extend_from_slice(task.as_slice()),
+        _ => Ok(()),
     }
 }
 
@@ -61,15 +65,20 @@ fn push_lock(
     push_between(text, middle, u64::from(taken.line), after)
 }
 
-// Appends how many there are, which are too many.
-fn push_many(text: &mut Vec<u8>, what: Many, name: &Name, count: u64) -> Result<(), AllocError> {
-    let (words, most): (&[u8], u64) = match what {
+// What there may be so many of, with the words that its name follows.
+fn most_of(what: Many) -> (&'static [u8], u64) {
+    match what {
         Many::LockCells => (b" lock cells with ", 65536),
         Many::RecordCells => (b" record cells with ", 65536),
         Many::Threads => (b" threads at ", 4096),
         Many::Fields => (b" fields of ", 64),
         Many::Variables => (b" variables of task ", 256),
-    };
+    }
+}
+
+// Appends how many there are, which are too many.
+fn push_many(text: &mut Vec<u8>, what: Many, name: &Name, count: u64) -> Result<(), AllocError> {
+    let (words, most) = most_of(what);
     push_between(text, b"", count, words)?;
     text.extend_from_slice(name.as_slice())?;
     push_between(text, b"; there may be ", most, b"")

@@ -2,7 +2,32 @@
 
 use crate::mark_hints::{DIGITS, WRITTEN};
 use crate::spots::{FORK, INTO, JOIN, PRINT, READ, SETTLE, Spot, WRITE};
+use crate::told_hints::{Told, told_of};
 use task_parser::Kind;
+
+// What gives a value, and what is told where it is to go into a control variable.
+static GIVEN: [Told; 3] = [
+    (
+        JOIN,
+        b"what a thread gives back is data: `join h into $x;`, and `settle $x into c;` makes it a control value",
+    ),
+    (
+        READ,
+        b"what is read is data: `read r[i] into $x;`, and `settle $x into c;` makes it a control value",
+    ),
+    (
+        SETTLE,
+        b"a settle makes data a control value: `settle $x into c;`",
+    ),
+];
+
+// How statements with an `into` are written.
+static WITH_INTO: [Told; 4] = [
+    (FORK, b"write `fork t() into h;`"),
+    (JOIN, b"write `join h into $x;`"),
+    (READ, b"write `read r[i] into $x;`"),
+    (SETTLE, b"write `settle $x into c;`"),
+];
 
 impl<'a> Spot<'a> {
     /// A name that is not of the kind which is wanted.
@@ -10,11 +35,11 @@ impl<'a> Spot<'a> {
         let kind = self.kind()?;
         if kind == Kind::Name && self.wants(Kind::Reg) {
             self.given_hint()
-        } else if kind == Kind::Reg && self.kind_before() == Some(INTO) && self.is_in(FORK) {
+        } else if kind == Kind::Reg && self.follows(INTO) && self.is_in(FORK) {
             Some(b"a fork gives the number of its thread: `fork t() into h; join h into $x;`")
-        } else if kind == Kind::Reg && self.kind_before() == Some(READ) {
+        } else if kind == Kind::Reg && self.follows(READ) {
             Some(b"write `read r[i] into $x;`")
-        } else if kind == Kind::Reg && self.kind_before() == Some(WRITE) {
+        } else if kind == Kind::Reg && self.follows(WRITE) {
             Some(WRITTEN)
         } else if kind == Kind::Reg && self.wants(Kind::Name) {
             Some(b"control variables, arrays, barriers and tasks are named without a `$`")
@@ -38,15 +63,9 @@ impl<'a> Spot<'a> {
 
     // A control variable for what is given back or read.
     fn given_hint(&self) -> Option<&'static [u8]> {
-        match self.first()?.kind {
-            JOIN => Some(
-                b"what a thread gives back is data: `join h into $x;`, and `settle $x into c;` makes it a control value",
-            ),
-            READ => Some(
-                b"what is read is data: `read r[i] into $x;`, and `settle $x into c;` makes it a control value",
-            ),
-            SETTLE => Some(b"a settle makes data a control value: `settle $x into c;`"),
-            _ => Some(b"data stands in a variable with a `$`: `into $x`"),
+        match told_of(&GIVEN, self.first()?.kind) {
+            Some(told) => Some(told),
+            None => Some(b"data stands in a variable with a `$`: `into $x`"),
         }
     }
 
@@ -56,12 +75,6 @@ impl<'a> Spot<'a> {
         if !self.wants(INTO) && !(self.has(INTO) && is_variable) {
             return None;
         }
-        match self.first()?.kind {
-            Kind::Word(12) => Some(b"write `fork t() into h;`"),
-            Kind::Word(14) => Some(b"write `join h into $x;`"),
-            Kind::Word(15) => Some(b"write `read r[i] into $x;`"),
-            Kind::Word(24) => Some(b"write `settle $x into c;`"),
-            _ => None,
-        }
+        told_of(&WITH_INTO, self.first()?.kind)
     }
 }

@@ -34,9 +34,12 @@ pub const UTF_16: &[u8] =
 
 /// Whether a file begins as one in UTF-16 does: with the bytes FF FE or FE FF, or with a 0 at every second byte.
 pub fn is_utf_16(bytes: &[u8]) -> bool {
+    if bytes.starts_with(b"\xff\xfe") || bytes.starts_with(b"\xfe\xff") {
+        return true;
+    }
     match bytes {
-        [0xff, 0xfe, ..] | [0xfe, 0xff, ..] => true,
-        [0, first, 0, second, ..] | [first, 0, second, 0, ..] => *first != 0 && *second != 0,
+        [0, second, 0, fourth, ..] => *second != 0 && *fourth != 0,
+        [first, 0, third, 0, ..] => *first != 0 && *third != 0,
         _ => false,
     }
 }
@@ -105,22 +108,32 @@ fn goes_on(byte: u8) -> bool {
     matches!(byte, 0x80..=0xbf)
 }
 
+// The byte at a place, where it goes on with a character.
+fn going_on(rest: &[u8], at: usize) -> Option<u8> {
+    match rest.get(at) {
+        Some(byte) if goes_on(*byte) => Some(*byte),
+        _ => None,
+    }
+}
+
+// What the bytes at the front are that begin with one above 127, and how many of them are one character.
+fn odd_above(first: u8, rest: &[u8]) -> (Odd, usize) {
+    let (second, third) = (going_on(rest, 1), going_on(rest, 2));
+    match (first, second, third) {
+        (0xc2..=0xdf, Some(second), _) => (odd_of_two(first, second), 2),
+        (0xe0..=0xef, Some(second), Some(third)) => (odd_of_three(first, second, third), 3),
+        (0xf0..=0xf4, Some(_), Some(_)) if going_on(rest, 3).is_some() => (Odd::Foreign, 4),
+        _ => (odd_of_one(first), 1),
+    }
+}
+
 // What the bytes at the front are, and how many of them are one character.
 fn odd_at(rest: &[u8]) -> Option<(Odd, usize)> {
-    match rest {
-        [0..=8 | 11 | 12 | 14..=31 | 127, ..] => Some((Odd::Control, 1)),
-        [0..=127, ..] | [] => None,
-        [first @ 0xc2..=0xdf, second, ..] if goes_on(*second) => {
-            Some((odd_of_two(*first, *second), 2))
-        }
-        [first @ 0xe0..=0xef, second, third, ..] if goes_on(*second) && goes_on(*third) => {
-            Some((odd_of_three(*first, *second, *third), 3))
-        }
-        [0xf0..=0xf4, second, third, fourth, ..]
-            if goes_on(*second) && goes_on(*third) && goes_on(*fourth) => {
-            Some((Odd::Foreign, 4))
-        }
-        [byte, ..] => Some((odd_of_one(*byte), 1)),
+    let first = *rest.get(0)?;
+    match first {
+        0..=8 | 11 | 12 | 14..=31 | 127 => Some((Odd::Control, 1)),
+        0..=127 => None,
+        _ => Some(odd_above(first, rest)),
     }
 }
 
@@ -178,9 +191,7 @@ fn hex_digit(number: u8) -> u8 {
 // Appends bytes in hexadecimal, with a space before each.
 fn push_hex(text: &mut Vec<u8>, bytes: &[u8]) -> Result<(), AllocError> {
     for byte in bytes {
-        text.push(b' ')?;
-        text.push(hex_digit(*byte / 16))?;
-        text.push(hex_digit(*byte % 16))?;
+        text.extend_from_slice(&[b' ', hex_digit(*byte / 16), hex_digit(*byte % 16)])?;
     }
     Ok(())
 }

@@ -38,3 +38,10 @@ pub fn push_words(
     text.extend_from_slice(second)?;
     text.extend_from_slice(third)
 }
+
+/// Appends a hint as a line.
+pub fn push_hint(text: &mut Vec<u8>, hint: &[u8]) -> Result<(), AllocError>
+    ensures { OnOk result (text.new.items ≡ text.old.items ++ codes "hint: " ++ hint.now ++ codes "\n") }
+{
+    push_words(text, b"hint: ", hint, b"\n")
+}

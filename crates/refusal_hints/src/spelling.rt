@@ -8,13 +8,13 @@ use std::alloc::AllocError;
 use task_ast::Atom;
 use task_parser::Kind;
 
-const WORDS: [&[u8]; 25] = [
+static WORDS: [&[u8]; 25] = [
     b"lock", b"unlock", b"barrier", b"record", b"by", b"from", b"feed", b"task", b"var", b"while",
     b"if", b"else", b"fork", b"into", b"join", b"read", b"write", b"print", b"when", b"and", b"or",
     b"not", b"self", b"rows", b"settle",
 ];
 
-const MARKS: [&[u8]; 20] = [
+static MARKS: [&[u8]; 20] = [
     b"[", b"]", b"(", b")", b"{", b"}", b",", b";", b"=", b"==", b"!=", b"<", b"<=", b">", b">=",
     b"+", b"-", b"*", b"/", b"%",
 ];
@@ -29,8 +29,7 @@ fn text_in<'a>(table: &[&'a [u8]], row: usize) -> &'a [u8] {
 
 /// Whether a word is one of the language once its letters are in lower case, and not before.
 pub fn is_word(word: &[u8]) -> bool {
-    let words: [&[u8]; 25] = WORDS;
-    for other in &words {
+    for other in &WORDS {
         if are_alike(other, word) && **other != *word {
             return true;
         }
@@ -40,15 +39,13 @@ pub fn is_word(word: &[u8]) -> bool {
 
 /// Appends what a kind of token is called.
 pub fn push_kind(text: &mut Vec<u8>, kind: Kind) -> Result<(), AllocError> {
-    let words: [&[u8]; 25] = WORDS;
-    let marks: [&[u8]; 20] = MARKS;
     match kind {
         Kind::Num(_) => text.extend_from_slice(b"a number"),
         Kind::Name => text.extend_from_slice(b"a name"),
         Kind::Reg => text.extend_from_slice(b"a data variable"),
         Kind::Quoted => text.extend_from_slice(b"a text in quotes"),
-        Kind::Word(row) => push_words(text, b"`", text_in(&words, row as usize), b"`"),
-        Kind::Mark(row) => push_words(text, b"`", text_in(&marks, row as usize), b"`"),
+        Kind::Word(row) => push_words(text, b"`", text_in(&WORDS, row as usize), b"`"),
+        Kind::Mark(row) => push_words(text, b"`", text_in(&MARKS, row as usize), b"`"),
     }
 }
 
@@ -68,14 +65,18 @@ fn push_signed(text: &mut Vec<u8>, number: i64) -> Result<(), AllocError> {
     push_number(text, number.unsigned_abs())
 }
 
+// Appends an index.
+fn push_index(text: &mut Vec<u8>, index: &Atom) -> Result<(), AllocError> {
+    match index {
+        Atom::Num(number) => push_signed(text, *number),
+        Atom::Var(name) => text.extend_from_slice(name.as_slice()),
+    }
+}
+
 /// Appends a cell of an array.
 pub fn push_cell(text: &mut Vec<u8>, array: &Name, index: &Atom) -> Result<(), AllocError> {
-    text.extend_from_slice(array.as_slice())?;
-    text.extend_from_slice(b"[")?;
-    match index {
-        Atom::Num(number) => push_signed(text, *number)?,
-        Atom::Var(name) => text.extend_from_slice(name.as_slice())?,
-    }
+    push_words(text, array.as_slice(), b"[", b"")?;
+    push_index(text, index)?;
     text.extend_from_slice(b"]")
 }
 

@@ -1,6 +1,6 @@
 // A token that can't stand where it does, and what stands around it.
 
-use crate::blocks::Place;
+use crate::blocks::{Place, is_end};
 use crate::kinds::has;
 use task_parser::{Kind, Token};
 use text_places::bytes_of;
@@ -78,21 +78,33 @@ pub struct Spot<'a> {
     pub kinds: &'a [Kind],
 }
 
-pub fn is_arithmetic(kind: Option<Kind>) -> bool {
-    matches!(kind, Some(Kind::Mark(15..=19)))
+pub fn is_arithmetic(kind: Kind) -> bool {
+    matches!(kind, Kind::Mark(15..=19))
 }
 
-pub fn is_comparison(kind: Option<Kind>) -> bool {
-    matches!(kind, Some(Kind::Mark(9..=14)))
-}
-
-pub fn is_reserved(kind: Option<Kind>) -> bool {
-    matches!(kind, Some(Kind::Word(_)))
+pub fn is_comparison(kind: Kind) -> bool {
+    matches!(kind, Kind::Mark(9..=14))
 }
 
 /// Whether a control statement begins with this word.
 pub fn is_control(kind: Kind) -> bool {
     matches!(kind, Kind::Word(0 | 1 | 2 | 9 | 10 | 12 | 14 | 24))
+}
+
+// Whether there is a token, and it is of the kind.
+fn is_of(token: Option<&Token>, kind: Kind) -> bool {
+    match token {
+        Some(token) => token.kind == kind,
+        None => false,
+    }
+}
+
+/// Whether there are both tokens, and one stands right after the other.
+pub fn are_joined(one: Option<&Token>, other: Option<&Token>) -> bool {
+    match (one, other) {
+        (Some(one), Some(other)) => one.to == other.from,
+        _ => false,
+    }
 }
 
 impl<'a> Spot<'a> {
@@ -115,6 +127,34 @@ impl<'a> Spot<'a> {
 
     pub fn kind_after(&self) -> Option<Kind> {
         Some(self.after()?.kind)
+    }
+
+    /// Whether this token is of the kind.
+    pub fn is(&self, kind: Kind) -> bool {
+        is_of(self.back(0), kind)
+    }
+
+    /// Whether this token follows one of the kind.
+    pub fn follows(&self, kind: Kind) -> bool {
+        is_of(self.back(1), kind)
+    }
+
+    /// Whether one of the kind follows this token.
+    pub fn precedes(&self, kind: Kind) -> bool {
+        is_of(self.after(), kind)
+    }
+
+    /// Whether this token follows a comparison.
+    pub fn follows_comparison(&self) -> bool {
+        match self.kind_before() {
+            Some(kind) => is_comparison(kind),
+            None => false,
+        }
+    }
+
+    /// Whether this token follows a word of the language.
+    pub fn follows_word(&self) -> bool {
+        matches!(self.kind_before(), Some(Kind::Word(_)))
     }
 
     pub fn bytes(&self, token: Option<&'a Token>) -> &'a [u8] {
@@ -153,59 +193,55 @@ impl<'a> Spot<'a> {
 
     /// Whether this token stands right after the one before it.
     pub fn is_joined(&self) -> bool {
-        match (self.back(1), self.back(0)) {
-            (Some(before), Some(token)) => before.to == token.from,
-            _ => false,
-        }
+        are_joined(self.back(1), self.back(0))
     }
 
     /// Whether the next token stands right after this one.
     pub fn is_joined_after(&self) -> bool {
-        match (self.back(0), self.after()) {
-            (Some(token), Some(after)) => token.to == after.from,
-            _ => false,
-        }
+        are_joined(self.back(0), self.after())
     }
 
     /// Whether the token before this one begins a statement or a block, or ends one.
     pub fn is_after_first(&self) -> bool {
-        matches!(self.back(2), Some(token) if matches!(token.kind, Kind::Mark(4 | 5 | 7)))
+        match self.back(2) {
+            Some(token) => is_end(token.kind),
+            None => false,
+        }
     }
 
     /// The first token of the statement before this one, which has no block.
     pub fn first(&self) -> Option<&'a Token> {
-        let before = self.place.tokens.get(..self.place.number)?;
-        let length = before
-            .iter()
-            .rev()
-            .take_while(|token| !matches!(token.kind, Kind::Mark(4 | 5 | 7)))
-            .count();
-        self.back(length)
+        self.place.head_of(self.place.number)
     }
 
     /// Whether the statement before this token, which has no block, begins with a token of this kind.
     pub fn is_in(&self, kind: Kind) -> bool {
-        matches!(self.first(), Some(token) if token.kind == kind)
+        is_of(self.first(), kind)
     }
 
     /// Whether this token follows the `else` of a `when`.
     pub fn is_in_else_of_when(&self) -> bool {
-        let Some(before) = self.place.tokens.get(..self.place.number) else {
-            return false;
-        };
+        match self.block_before() {
+            Some(open) => is_of(self.place.head_of(open), WHEN),
+            None => false,
+        }
+    }
+
+    // The `{` of the last block before this token, or of the one around it where there is none, by its number.
+    fn block_before(&self) -> Option<usize> {
+        let tokens = self.place.tokens.get(..self.place.number)?;
         let mut depth: usize = 0;
-        let mut number = self.place.number;
-        for token in before.iter().rev() {
-            number = number.saturating_sub(1);
-            if token.kind == CLOSE_BLOCK {
-                depth = depth.saturating_add(1);
-            } else if token.kind == OPEN_BLOCK && depth <= 1 {
-                return matches!(self.place.head_of(number), Some(head) if head.kind == WHEN);
-            } else if token.kind == OPEN_BLOCK {
-                depth = depth.saturating_sub(1);
+        let mut number = tokens.len();
+        while number > 0 {
+            number -= 1;
+            match tokens[number].kind {
+                CLOSE_BLOCK => depth = depth.saturating_add(1),
+                OPEN_BLOCK if depth <= 1 => return Some(number),
+                OPEN_BLOCK => depth = depth.saturating_sub(1),
+                _ => {}
             }
         }
-        false
+        None
     }
 
     /// Whether the program has a feed of this name.
@@ -236,7 +272,7 @@ impl<'a> Spot<'a> {
     /// Whether a statement begins at this token.
     pub fn begins_statement(&self) -> bool {
         match self.kind() {
-            Some(Kind::Name | Kind::Reg) => self.kind_after() == Some(ASSIGN),
+            Some(Kind::Name | Kind::Reg) => self.precedes(ASSIGN),
             Some(kind) => is_control(kind) || matches!(kind, Kind::Word(8 | 15..=18)),
             None => false,
         }

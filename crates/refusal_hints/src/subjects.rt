@@ -1,5 +1,6 @@
 // The token that a blame is about.
 
+use crate::blocks::is_end;
 use crate::pieces::{push_between, push_words};
 use gp_base::Name;
 use rule_blame::{Blame, Numbered, Role, Told, Use, push_uses};
@@ -52,11 +53,6 @@ fn is_name(kind: Kind) -> bool {
     matches!(kind, Kind::Name | Kind::Reg)
 }
 
-// A `;`, `{` or `}`.
-fn is_end(kind: Kind) -> bool {
-    matches!(kind, Kind::Mark(4 | 5 | 7))
-}
-
 impl Around {
     fn new() -> Around {
         Around {
@@ -102,9 +98,14 @@ impl Around {
 // Whether a token spells the name.
 fn spells(program: &[u8], token: &Token, wanted: Wanted<'_>) -> bool {
     let bytes = bytes_of(program, token);
+    wanted.dollar == bytes.starts_with(b"$") && *bare(bytes) == *wanted.name
+}
+
+// The bytes of a name without its `$`, if it has one.
+fn bare(bytes: &[u8]) -> &[u8] {
     match bytes {
-        [b'$', name @ ..] => wanted.dollar && *name == *wanted.name,
-        _ => !wanted.dollar && *bytes == *wanted.name,
+        [b'$', name @ ..] => name,
+        _ => bytes,
     }
 }
 
@@ -185,14 +186,22 @@ fn use_number(
 ) -> Result<Option<usize>, AllocError> {
     let mut uses = Vec::new(alloc);
     push_uses(&mut uses, program, statement.what)?;
+    Ok(use_about(&uses, blame))
+}
+
+// The first of these names that a blame is about, or the last where the blame is about a name that is set.
+fn use_about(uses: &[Use<'_>], blame: &Blame<'_>) -> Option<usize> {
     let is_last = matches!(blame, Blame::IndexSet { .. });
     let mut found = None;
-    for (at, used) in uses.as_slice().iter().enumerate() {
-        if is_about(blame, used) && (is_last || found.is_none()) {
+    for (at, used) in uses.iter().enumerate() {
+        if is_about(blame, used) {
             found = Some(at);
+            if !is_last {
+                break;
+            }
         }
     }
-    Ok(found)
+    found
 }
 
 // Whether a blame is about a statement as a whole.
@@ -238,18 +247,23 @@ fn token_of_statement(
     if is_whole(blame) {
         return Ok(Subject::at(Some(start)));
     }
-    let Some(number) = use_number(alloc, program, statement, blame)? else {
-        return Ok(Subject::at(Some(start)));
-    };
+    match use_number(alloc, program, statement, blame)? {
+        Some(number) => Ok(subject_in(tokens, start, number, line)),
+        None => Ok(Subject::at(Some(start))),
+    }
+}
+
+// A name of the statement that starts at this token, or its first token where the name stands in another line than this.
+fn subject_in(tokens: &[Token], start: usize, number: usize, line: u32) -> Subject {
     let Some(at) = name_token(tokens, start, number) else {
-        return Ok(Subject::at(Some(start)));
+        return Subject::at(Some(start));
     };
     match tokens.get(at) {
-        Some(token) if token.line == line => Ok(Subject::at(Some(at))),
-        _ => Ok(Subject {
+        Some(token) if token.line == line => Subject::at(Some(at)),
+        _ => Subject {
             shown: Some(start),
             apart: Some(at),
-        }),
+        },
     }
 }
 

@@ -57,6 +57,23 @@ impl<'a> Spot<'a> {
     }
 }
 
+// Appends the hints on a token that can't stand where it does.
+fn push_hints(
+    alloc: Global,
+    text: &mut Vec<u8>,
+    place: Place<'_>,
+    kinds: &[Kind],
+) -> Result<(), AllocError> {
+    let spot = Spot { place, kinds };
+    match spot.hint() {
+        Some(hint) => {
+            spot.push_block_lines(alloc, text)?;
+            push_told(text, hint)
+        }
+        None => place.push_block_hints(alloc, text),
+    }
+}
+
 /// The hints on a token that can't stand where it does.
 pub fn parse_hints(
     alloc: Global,
@@ -65,17 +82,12 @@ pub fn parse_hints(
     at: u32,
     kinds: &[Kind],
 ) -> Result<Vec<u8>, AllocError> {
-    let number = token_number(tokens, at);
     let place = Place {
         program,
         tokens,
-        number,
+        number: token_number(tokens, at),
     };
-    let spot = Spot { place, kinds };
-    let Some(hint) = spot.hint() else {
-        return place.block_hints(alloc);
-    };
-    let mut text = spot.block_lines(alloc)?;
-    push_told(&mut text, hint)?;
+    let mut text = Vec::new(alloc);
+    push_hints(alloc, &mut text, place, kinds)?;
     Ok(text)
 }

@@ -1,7 +1,21 @@
 // How a hint is told.
 
-use crate::pieces::{push_between, push_words};
+use crate::pieces::{push_between, push_hint, push_words};
 use std::alloc::AllocError;
+use task_parser::Kind;
+
+/// A kind of token, and what is told of it.
+pub type Told = (Kind, &'static [u8]);
+
+/// What is told of a kind in a table.
+pub fn told_of(table: &[Told], kind: Kind) -> Option<&'static [u8]> {
+    for (other, told) in table {
+        if *other == kind {
+            return Some(told);
+        }
+    }
+    None
+}
 
 /// What is told of a token.
 #[derive(Clone, Copy)]
@@ -23,7 +37,7 @@ pub enum Hint<'a> {
 /// Appends a hint as a line.
 pub fn push_told(text: &mut Vec<u8>, hint: Hint<'_>) -> Result<(), AllocError> {
     match hint {
-        Hint::Fixed(fixed) => push_words(text, b"hint: ", fixed, b"\n"),
+        Hint::Fixed(fixed) => push_hint(text, fixed),
         Hint::Word(word) => push_words(
             text,
             b"hint: `",

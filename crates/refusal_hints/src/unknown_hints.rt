@@ -1,8 +1,9 @@
 // What to write in place of a name that isn't declared as what its place needs.
 
+use crate::counts::task_named;
 use crate::foreign::value;
-use crate::hints::{head_name, is_near, push_declared, push_near, push_near_head};
-use crate::pieces::push_words;
+use crate::hints::{name_of, near, near_head, near_task, push_declared, variable};
+use crate::pieces::{push_hint, push_words};
 use crate::spelling::push_name;
 use gp_base::Name;
 use rule_blame::Role;
@@ -17,19 +18,6 @@ fn kind_of(head: &Head) -> &'static [u8] {
         Head::RecHead { .. } => b" is a record",
         Head::FeedHead { .. } => b" is a feed",
     }
-}
-
-// Whether a head has this name, whatever it declares.
-fn is_named(head: &Head, name: &Name) -> bool {
-    let roles: [Role; 4] = [Role::LockArray, Role::Barrier, Role::Record, Role::Feed];
-    for role in &roles {
-        if let Some(other) = head_name(head, *role) {
-            if other.as_slice() == name.as_slice() {
-                return true;
-            }
-        }
-    }
-    false
 }
 
 // The first record that stands under the locks of this name.
@@ -94,6 +82,16 @@ fn told_of_task(role: Role) -> &'static [u8] {
     }
 }
 
+// The first head of a name.
+fn head_named<'a>(heads: &'a [Head], name: &Name) -> Option<&'a Head> {
+    for head in heads {
+        if name_of(head).as_slice() == name.as_slice() {
+            return Some(head);
+        }
+    }
+    None
+}
+
 // Appends what else the name is declared as among the heads and the tasks.
 fn push_other_role(
     text: &mut Vec<u8>,
@@ -102,30 +100,23 @@ fn push_other_role(
     name: &Name,
 ) -> Result<bool, AllocError> {
     let heads = program.heads.as_slice();
-    for head in heads {
-        if is_named(head, name) {
-            push_words(text, b"hint: ", name.as_slice(), kind_of(head))?;
-            push_instead(text, heads, role, head, name)?;
-            text.extend_from_slice(b"\n")?;
-            return Ok(true);
-        }
+    if let Some(head) = head_named(heads, name) {
+        push_words(text, b"hint: ", name.as_slice(), kind_of(head))?;
+        push_instead(text, heads, role, head, name)?;
+        text.extend_from_slice(b"\n")?;
+        return Ok(true);
     }
-    for task in program.tasks.as_slice() {
-        if task.name.as_slice() == name.as_slice() {
-            push_words(text, b"hint: ", name.as_slice(), told_of_task(role))?;
-            return Ok(true);
-        }
+    let is_task = task_named(program, name.as_slice()).is_some();
+    if is_task {
+        push_words(text, b"hint: ", name.as_slice(), told_of_task(role))?;
     }
-    Ok(false)
+    Ok(is_task)
 }
 
 // Whether a variable is among these.
 fn has_variable(params: &[Param], role: Role, name: &Name) -> bool {
     for param in params {
-        let (found, other) = match param {
-            Param::Ctl(x) => (Role::Control, x),
-            Param::Reg(x) => (Role::Data, x),
-        };
+        let (found, other) = variable(param);
         if found == role && other.as_slice() == name.as_slice() {
             return true;
         }
@@ -146,26 +137,31 @@ fn declares(task: &TaskText, role: Role, name: &Name) -> bool {
     false
 }
 
-// Appends which other task declares a variable, if one does.
-fn push_elsewhere(
-    text: &mut Vec<u8>,
-    program: &Program,
-    role: Role,
-    name: &Name,
-) -> Result<(), AllocError> {
+// The first task that declares a variable.
+fn declaring_task<'a>(program: &'a Program, role: Role, name: &Name) -> Option<&'a TaskText> {
     for task in program.tasks.as_slice() {
         if declares(task, role, name) {
-            text.extend_from_slice(b"hint: ")?;
-            push_name(text, role, name)?;
-            return push_words(
-                text,
-                b" is declared in task ",
-                task.name.as_slice(),
-                b", for that task alone\n",
-            );
+            return Some(task);
         }
     }
-    Ok(())
+    None
+}
+
+// Appends which other task declares a variable.
+fn push_elsewhere(
+    text: &mut Vec<u8>,
+    role: Role,
+    name: &Name,
+    task: &Name,
+) -> Result<(), AllocError> {
+    text.extend_from_slice(b"hint: ")?;
+    push_name(text, role, name)?;
+    push_words(
+        text,
+        b" is declared in task ",
+        task.as_slice(),
+        b", for that task alone\n",
+    )
 }
 
 // What stands before and after a name where it is declared.
@@ -206,7 +202,7 @@ pub fn push_unknown(
     task: &Name,
 ) -> Result<(), AllocError> {
     if let Some(hint) = value(name.as_slice()) {
-        return push_words(text, b"hint: ", hint, b"\n");
+        return push_hint(text, hint);
     }
     if role == Role::Control && name.as_slice() == b"ret".as_slice() {
         return push_declared(text, Role::Data, name);
@@ -214,10 +210,12 @@ pub fn push_unknown(
     if role != Role::Data && push_other_role(text, program, role, name)? {
         return Ok(());
     }
-    if push_near(text, program, role, name, task)? {
-        return Ok(());
+    if let Some((found, other)) = near(program, role, name, task) {
+        return push_declared(text, found, other);
     }
-    push_elsewhere(text, program, role, name)?;
+    if let Some(other) = declaring_task(program, role, name) {
+        push_elsewhere(text, role, name, &other.name)?;
+    }
     push_declaring(text, role, name)
 }
 
@@ -230,18 +228,16 @@ pub fn push_no_array(
     if push_other_role(text, program, Role::LockArray, array)? {
         return Ok(());
     }
-    if push_near_head(text, program.heads.as_slice(), Role::LockArray, array)? {
-        return Ok(());
+    match near_head(program.heads.as_slice(), Role::LockArray, array) {
+        Some((role, other)) => push_declared(text, role, other),
+        None => push_declaring(text, Role::LockArray, array),
     }
-    push_declaring(text, Role::LockArray, array)
 }
 
 /// Appends which task is nearly named `main`, or what `main` is.
 pub fn push_no_main(text: &mut Vec<u8>, program: &Program) -> Result<(), AllocError> {
-    for task in program.tasks.as_slice() {
-        if is_near(task.name.as_slice(), b"main") {
-            return push_declared(text, Role::Task, &task.name);
-        }
+    match near_task(program, b"main") {
+        Some((role, name)) => push_declared(text, role, name),
+        None => text.extend_from_slice(b"hint: the first thread runs `task main() { .. }`\n"),
     }
-    text.extend_from_slice(b"hint: the first thread runs `task main() { .. }`\n")
 }

@@ -4,7 +4,7 @@ use crate::foreign::{BLOCK, ELSE_IF, beginning, giving, head, operator};
 use crate::spelling::is_word;
 use crate::spots::{
     ASSIGN, COMMA, ELSE, IF, MINUS, OPEN_BRACKET, PLUS, READ, SEMICOLON, Spot, TASK, VAR, WHEN,
-    is_arithmetic, is_comparison, is_control, is_reserved,
+    is_arithmetic, is_comparison, is_control,
 };
 use crate::told_hints::Hint;
 use task_parser::Kind;
@@ -27,12 +27,14 @@ fn misplaced<'a>(kind: Kind, word: &'a [u8]) -> Option<Hint<'a>> {
 impl<'a> Spot<'a> {
     // Whether this token and the next would set what stands before them in other languages.
     fn sets(&self) -> bool {
-        let kind = self.kind();
+        let Some(kind) = self.kind() else {
+            return false;
+        };
         if is_arithmetic(kind) {
-            let after = self.kind_after();
-            return after == Some(ASSIGN) || after == kind;
+            self.precedes(ASSIGN) || self.precedes(kind)
+        } else {
+            is_comparison(kind) || kind == OPEN_BRACKET || kind == COMMA
         }
-        is_comparison(kind) || kind == Some(OPEN_BRACKET) || kind == Some(COMMA)
     }
 
     /// A word of another language: the token before this one, where it begins a statement, or this token.
@@ -48,9 +50,7 @@ impl<'a> Spot<'a> {
         if self.has(TASK) && beginning(word).is_some() {
             return beginning(word);
         }
-        if self.kind_before() == Some(ELSE)
-            && matches!(self.kind(), Some(Kind::Word(9 | 10 | 18)))
-        {
+        if self.follows(ELSE) && matches!(self.kind(), Some(Kind::Word(9 | 10 | 18))) {
             return Some(self.else_hint());
         }
         if self.is_beside() && (self.has(PLUS) || self.has(SEMICOLON)) {
@@ -81,10 +81,10 @@ impl<'a> Spot<'a> {
                 b"the arms of a `when` hold only `$x = e;`, `read`, `write`, `print` and `when`; `settle $x into c;` makes $x a control value, for an `if`",
             ));
         }
-        if kind == ASSIGN && is_reserved(self.kind_before()) && self.is_after_first() {
+        if kind == ASSIGN && self.follows_word() && self.is_after_first() {
             return Some(Hint::Word(self.bytes(self.back(1))));
         }
-        if !is_reserved(Some(kind)) {
+        if !matches!(kind, Kind::Word(_)) {
             return None;
         }
         if self.has(READ) {

@@ -5,7 +5,7 @@ ghost use Rattle.refusal_texts.specs.Refusals.{kind_number, IsCheckRefusal};
 
 use crate::front::{Rule, push_refusal};
 use gp_base::{Name, Seq};
-use refusal_hints::{Subject, check_hints, push_apart, push_message, subject_token};
+use refusal_hints::{Subject, push_apart, push_check_hints, push_message, subject_token};
 use rule_blame::{Blame, Told, blame};
 use std::alloc::{AllocError, Global};
 use task_ast::{CheckKind, Program, What};
@@ -99,18 +99,16 @@ fn has_one_block(told: &Told<'_>) -> bool {
     }
 }
 
-// The message of a blame, or what can be said without one.
-fn message_of(
-    alloc: Global,
+// Appends the message of a blame, or what can be said without one.
+fn push_told_message(
+    text: &mut Vec<u8>,
     program: &Program,
     told: &Option<Told<'_>>,
-) -> Result<Vec<u8>, AllocError> {
-    let mut text = Vec::new(alloc);
+) -> Result<(), AllocError> {
     match told {
-        Some(told) => push_message(&mut text, program, &told.blame, has_one_block(told))?,
-        None => text.extend_from_slice(b"a rule of the check is broken in this line")?,
+        Some(told) => push_message(text, program, &told.blame, has_one_block(told)),
+        None => text.extend_from_slice(b"a rule of the check is broken in this line"),
     }
-    Ok(text)
 }
 
 // The token that is told of, where it is found.
@@ -128,20 +126,21 @@ fn subject_of(
     }
 }
 
-// The hints, and before them where the token stands that is told of, if it is in another line.
-fn hints_of(
-    alloc: Global,
+// Appends the hints, and before them where the token stands that is told of, if it is in another line.
+fn push_hints(
+    text: &mut Vec<u8>,
     source: (&[u8], &Seq<Token>),
     program: &Program,
     kind: CheckKind,
     told: &Option<Told<'_>>,
     subject: Subject,
-) -> Result<Vec<u8>, AllocError> {
+) -> Result<(), AllocError> {
     let (bytes, tokens) = source;
-    let mut text = Vec::new(alloc);
-    push_apart(&mut text, bytes, tokens.as_slice(), subject)?;
-    text.extend_from_slice(&check_hints(alloc, program, kind, told)?)?;
-    Ok(text)
+    push_apart(text, bytes, tokens.as_slice(), subject)?;
+    match told {
+        Some(told) => push_check_hints(text, program, kind, told),
+        None => Ok(()),
+    }
 }
 
 /// Appends why a program breaks a rule of the check in a line: its name, the place, what is said of that line, the line
@@ -160,9 +159,11 @@ pub fn push_check_refusal(
 {
     let (bytes, tokens) = source;
     let told = blame(alloc, program, kind, line);
-    let message = message_of(alloc, program, &told)?;
+    let mut message = Vec::new(alloc);
+    push_told_message(&mut message, program, &told)?;
     let subject = subject_of(alloc, source, program, &told, line)?;
-    let hints = hints_of(alloc, source, program, kind, &told, subject)?;
+    let mut hints = Vec::new(alloc);
+    push_hints(&mut hints, source, program, kind, &told, subject)?;
     let at = shown_at(tokens.as_slice(), line, subject.shown, &told);
     let rule = Rule {
         kind: b"check",

@@ -6,7 +6,7 @@ ghost use Rattle.refusal_texts.specs.Refusals.{IsLexRefusal};
 
 use crate::front::{Rule, push_refusal};
 use gp_base::Name;
-use refusal_hints::{lex_hints, push_between, push_words};
+use refusal_hints::{push_between, push_lex_hints, push_words};
 use std::alloc::{AllocError, Global};
 use task_parser::LexFault;
 use text_places::{lex_place, push_shown};
@@ -18,37 +18,35 @@ pub const BYTES: &[u8] =
 /// What the second says.
 pub const NUMBERS: &[u8] = b"a number is at most 9223372036854775807";
 
-// What is said of a byte that can't stand where it is shown.
-fn byte_message(alloc: Global, program: &[u8], at: usize) -> Result<Vec<u8>, AllocError> {
-    let mut text = Vec::new(alloc);
+// Appends what is said of a byte that can't stand where it is shown.
+fn push_byte_message(text: &mut Vec<u8>, program: &[u8], at: usize) -> Result<(), AllocError> {
     match program.get(at) {
-        None => text.extend_from_slice(b"the text ends inside a text in quotes")?,
-        Some(b'\n') => text.extend_from_slice(b"the line ends inside a text in quotes")?,
-        Some(byte) if *byte > 32 && *byte < 127 => push_words(
-            &mut text,
-            b"`",
-            &[*byte],
-            b"` cannot stand here",
-        )?,
-        Some(byte) => push_between(&mut text, b"byte ", u64::from(*byte), b" cannot stand here")?,
+        None => text.extend_from_slice(b"the text ends inside a text in quotes"),
+        Some(b'\n') => text.extend_from_slice(b"the line ends inside a text in quotes"),
+        Some(byte) if *byte > 32 && *byte < 127 => {
+            push_words(text, b"`", &[*byte], b"` cannot stand here")
+        }
+        Some(byte) => push_between(text, b"byte ", u64::from(*byte), b" cannot stand here"),
     }
-    Ok(text)
 }
 
-// How many digits stand at the front.
-fn digits(text: &[u8]) -> usize
+/// How many digits stand at the front.
+pub fn digits(text: &[u8]) -> usize
     ensures { result ≤ length text.now }
 {
-    text.iter().take_while(|byte| byte.is_ascii_digit()).count()
+    for at in 0..text.len() {
+        if !text[at].is_ascii_digit() {
+            return at;
+        }
+    }
+    text.len()
 }
 
-// What is said of a number that is too big.
-fn number_message(alloc: Global, program: &[u8], at: usize) -> Result<Vec<u8>, AllocError> {
+// Appends what is said of a number that is too big.
+fn push_number_message(text: &mut Vec<u8>, program: &[u8], at: usize) -> Result<(), AllocError> {
     let rest = &program[at.min(program.len())..];
-    let mut text = Vec::new(alloc);
-    push_shown(&mut text, &rest[..digits(rest).min(40)])?;
-    text.extend_from_slice(b" is too big")?;
-    Ok(text)
+    push_shown(text, &rest[..digits(rest).min(40)])?;
+    text.extend_from_slice(b" is too big")
 }
 
 // Appends why a byte can't stand where it does.
@@ -64,8 +62,10 @@ fn push_bad_byte(
         (rule_text (codes "lex") 1 BYTES.now (codes "byte") at) text.old.items text.new.items) }
 {
     let place = lex_place(program, at as usize);
-    let message = byte_message(alloc, program, place)?;
-    let hints = lex_hints(alloc, program, place)?;
+    let mut message = Vec::new(alloc);
+    push_byte_message(&mut message, program, place)?;
+    let mut hints = Vec::new(alloc);
+    push_lex_hints(&mut hints, program, place)?;
     let rule = Rule {
         kind: b"lex",
         number: 1,
@@ -88,7 +88,8 @@ fn push_big_number(
     ensures { OnOk result (IsRefusal name.now program.now at
         (rule_text (codes "lex") 2 NUMBERS.now (codes "byte") at) text.old.items text.new.items) }
 {
-    let message = number_message(alloc, program, at as usize)?;
+    let mut message = Vec::new(alloc);
+    push_number_message(&mut message, program, at as usize)?;
     let rule = Rule {
         kind: b"lex",
         number: 2,

@@ -29,6 +29,23 @@ fn told_bytes<'a>(program: &'a [u8], token: &Token) -> &'a [u8] {
     &bytes[..bytes.len().min(LONGEST_TOKEN)]
 }
 
+// Appends what is said of the token that begins at a place.
+fn push_token(
+    text: &mut Vec<u8>,
+    program: &[u8],
+    tokens: &[Token],
+    at: u32,
+) -> Result<(), AllocError> {
+    match tokens.get(token_number(tokens, at)) {
+        Some(token) => {
+            text.extend_from_slice(b"`")?;
+            push_shown(text, told_bytes(program, token))?;
+            text.extend_from_slice(b"` cannot stand here")
+        }
+        None => text.extend_from_slice(b"the text ends here"),
+    }
+}
+
 // What is said of a token that can't stand where it does.
 fn token_message(
     alloc: Global,
@@ -38,14 +55,7 @@ fn token_message(
     kinds: &[Kind],
 ) -> Result<Vec<u8>, AllocError> {
     let mut text = Vec::new(alloc);
-    match tokens.get(token_number(tokens, at)) {
-        Some(token) => {
-            text.extend_from_slice(b"`")?;
-            push_shown(&mut text, told_bytes(program, token))?;
-            text.extend_from_slice(b"` cannot stand here")?;
-        }
-        None => text.extend_from_slice(b"the text ends here")?,
-    }
+    push_token(&mut text, program, tokens, at)?;
     push_expected(alloc, &mut text, kinds)?;
     Ok(text)
 }
