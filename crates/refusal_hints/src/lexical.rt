@@ -1,8 +1,8 @@
 // What to write in place of a byte that can't stand where it does.
+ghost use Rattle.std.specs.Prelude.{◌≤◌, length};
 
 use crate::foreign::{BLOCK, beginning, is_among};
 use crate::hints::COMMENT;
-use crate::lexing::digits;
 use crate::odd_bytes::{Place, UTF_16, is_utf_16, push_odd};
 use crate::pieces::push_hint;
 use std::alloc::AllocError;
@@ -23,6 +23,18 @@ static LOCKS: [&[u8]; 2] = [b".lock", b".unlock"];
 
 // Words after which a block begins.
 static HEADS: [&[u8]; 4] = [b"if", b"else", b"while", b"when"];
+
+/// How many digits stand at the front.
+pub fn digits(text: &[u8]) -> usize
+    ensures { result ≤ length text.now }
+{
+    for at in 0..text.len() {
+        if !text[at].is_ascii_digit() {
+            return at;
+        }
+    }
+    text.len()
+}
 
 // Whether the bytes before a place in its line have two slashes, or a slash and a star, in a row.
 fn is_after_slashes(program: &[u8], at: usize) -> bool {

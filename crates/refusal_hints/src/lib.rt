@@ -36,7 +36,7 @@ pub use file_hints::{Refused, push_row_hint};
 pub use file_uses::{FileUse, bytes_in, fields_of};
 pub use hints::push_check_hints;
 pub use kinds::push_expected;
-pub use lexical::push_lex_hints;
+pub use lexical::{digits, push_lex_hints};
 pub use messages::push_message;
 pub use pieces::{push_between, push_number, push_words};
 pub use subjects::{Subject, push_apart, subject_token};

@@ -1,12 +1,12 @@
 // Why a text is no list of tokens.
-ghost use Rattle.std.specs.Prelude.{◌≡◌, ◌<◌, ◌≤◌, ◌++◌, ◌^◌, length, OnOk, codes};
+ghost use Rattle.std.specs.Prelude.{◌≡◌, ◌<◌, ◌++◌, ◌^◌, length, OnOk, codes};
 ghost use Rattle.text_places.specs.Faults.{lex_place};
 ghost use Rattle.refusal_texts.specs.Fronts.{rule_text, IsRefusal};
 ghost use Rattle.refusal_texts.specs.Refusals.{IsLexRefusal};
 
 use crate::front::{Rule, push_refusal};
 use gp_base::Name;
-use refusal_hints::{push_between, push_lex_hints, push_words};
+use refusal_hints::{digits, push_between, push_lex_hints, push_words};
 use std::alloc::{AllocError, Global};
 use task_parser::LexFault;
 use text_places::{lex_place, push_shown};
@@ -28,18 +28,6 @@ fn push_byte_message(text: &mut Vec<u8>, program: &[u8], at: usize) -> Result<()
         }
         Some(byte) => push_between(text, b"byte ", u64::from(*byte), b" cannot stand here"),
     }
-}
-
-/// How many digits stand at the front.
-pub fn digits(text: &[u8]) -> usize
-    ensures { result ≤ length text.now }
-{
-    for at in 0..text.len() {
-        if !text[at].is_ascii_digit() {
-            return at;
-        }
-    }
-    text.len()
 }
 
 // Appends what is said of a number that is too big.
