@@ -1,5 +1,5 @@
 -- A law of audits.
-use Rattle.std.specs.Prelude.{◌≡◌, ◌≤◌, ℕ, Bool, true, List, Some, length, codes}
+use Rattle.std.specs.Prelude.{◌≡◌, ◌≤◌, Bool, true, List, Some, length, codes}
 use Rattle.gp_base.specs.meaning.Files.{bytes_of}
 use Rattle.gp_base.specs.declared.limits.TheConstants.{MOST_FILE_BYTES}
 use Rattle.task_ast.specs.meaning.Tree.{Name}
