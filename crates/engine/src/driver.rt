@@ -1,7 +1,8 @@
 // A whole run that restarts selectively.
-ghost use Rattle.std.specs.Prelude.{◌≡◌, [], IfOk, OnOk};
+ghost use Rattle.std.specs.Prelude.{◌≡◌, IfOk, OnOk};
 ghost use Rattle.std.specs.Io.KnownBytes.{Appends};
 ghost use Rattle.subthread.specs.Tasks.{Suits};
+ghost use Rattle.crew.specs.Unposted.{IsUnposted};
 ghost use Rattle.restart_log.specs.meaning.Lines.{printed};
 ghost use Rattle.whole_run.specs.Drive.{journal_in, JournalStands, ReportsRun, all_lines, WritesRetired, HasRunCause, HasRunCauses, ArePosts, IsUntaken, RanOut};
 ghost use Rattle.whole_run.specs.Notes.{NotesRun};
@@ -14,12 +15,11 @@ use std::alloc::Global;
 use std::thread::Threads;
 use subthread::Work;
 use task_ast::Layout;
-use whole_run::{Recovery, drive_by};
+use whole_run::{BatchRun, Recovery, drive_by};
 
 /// Runs a batch as `drive` does, and has notes taken of it: what is applied is noted, and each position that retires is
-/// told to
-/// `log` once its lines are written, with what its subthread leaves in the plain run. Where the run stops, a part of the last
-/// one may be missing. A fault of the log stops the run as one of the output does.
+/// told to `log` once its lines are written, with what its subthread leaves in the plain run. Where the run stops, a
+/// part of the last one may be missing. A fault of the log stops the run as one of the output does.
 pub fn drive_noted<R: Threads + Sync, C: Crew, O: Sink, N: Notes, L: Sink>(
     rt: &R,
     alloc: Global,
@@ -34,10 +34,7 @@ pub fn drive_noted<R: Threads + Sync, C: Crew, O: Sink, N: Notes, L: Sink>(
     log: &mut L,
 ) -> Result<Report, EngineStop>
     requires suits { Suits work.now layout inputs limits }
-    requires ready { C.ready crew.old }
-    requires work { C.work crew.old ≡ work.now }
-    requires none_out { C.out crew.old ≡ [] }
-    requires none_posted { C.posted crew.old ≡ [] }
+    requires unposted { IsUnposted C.ready C.work C.out C.posted crew.old work.now }
     ensures journal { JournalStands (batch_of work.now inputs limits faults) (journal_in result) }
     ensures report { IfOk result (ReportsRun (batch_of work.now inputs limits faults)) }
     ensures lines { OnOk result (Appends (O.written out.old) (O.written out.new) (printed (all_lines (batch_of work.now inputs limits faults)))) }
@@ -49,20 +46,15 @@ pub fn drive_noted<R: Threads + Sync, C: Crew, O: Sink, N: Notes, L: Sink>(
     ensures posts { ArePosts (C.posted crew.new) (journal_in result) }
     ensures out { ¬ RanOut result → IsUntaken (C.out crew.new) (journal_in result) }
 {
-    drive_by(
-        rt,
-        alloc,
-        Recovery::Selective,
+    let run = BatchRun {
         work,
+        recovery: Recovery::Selective,
         layout,
         inputs,
         faults,
         limits,
-        crew,
-        out,
-        notes,
-        log,
-    )
+    };
+    drive_by(rt, alloc, run, crew, out, notes, log)
 }
 
 /// Runs a batch with a crew, which has not been posted to, and writes the printed lines to `out`: at the end exactly
@@ -81,10 +73,7 @@ pub fn drive<R: Threads + Sync, C: Crew, O: Sink>(
     out: &mut O,
 ) -> Result<Report, EngineStop>
     requires suits { Suits work.now layout inputs limits }
-    requires ready { C.ready crew.old }
-    requires work { C.work crew.old ≡ work.now }
-    requires none_out { C.out crew.old ≡ [] }
-    requires none_posted { C.posted crew.old ≡ [] }
+    requires unposted { IsUnposted C.ready C.work C.out C.posted crew.old work.now }
     ensures journal { JournalStands (batch_of work.now inputs limits faults) (journal_in result) }
     ensures report { IfOk result (ReportsRun (batch_of work.now inputs limits faults)) }
     ensures lines { OnOk result (Appends (O.written out.old) (O.written out.new) (printed (all_lines (batch_of work.now inputs limits faults)))) }

@@ -1,7 +1,8 @@
 // A whole run that rolls back to cuts.
-ghost use Rattle.std.specs.Prelude.{◌≡◌, ◌≤◌, [], IfOk, OnOk};
+ghost use Rattle.std.specs.Prelude.{◌≡◌, ◌≤◌, IfOk, OnOk};
 ghost use Rattle.std.specs.Io.KnownBytes.{Appends};
 ghost use Rattle.subthread.specs.Tasks.{Suits};
+ghost use Rattle.crew.specs.Unposted.{IsUnposted};
 ghost use Rattle.restart_log.specs.meaning.Lines.{printed};
 ghost use Rattle.whole_run.specs.Drive.{journal_in, JournalStands, ReportsRun, all_lines, WritesRetired, HasRunCause, ArePosts, IsUntaken, RanOut};
 ghost use Rattle.gp_checkpoint.specs.Drive.{batch_of};
@@ -13,7 +14,7 @@ use std::alloc::Global;
 use std::thread::Threads;
 use subthread::Work;
 use task_ast::Layout;
-use whole_run::{Recovery, drive_by};
+use whole_run::{BatchRun, Recovery, drive_by};
 
 /// Runs a batch as `engine::drive` does, but by checkpoints: the data are copied at the cuts, which are the multiples of
 /// `every` and the subthreads that begin with a settle, and a fault rolls all from its cut on back to the copy there.
@@ -34,10 +35,7 @@ pub fn ckpt_drive<R: Threads + Sync, C: Crew, O: Sink>(
 ) -> Result<Report, EngineStop>
     requires suits { Suits work.now layout inputs limits }
     requires some { 1 ≤ every }
-    requires ready { C.ready crew.old }
-    requires work { C.work crew.old ≡ work.now }
-    requires none_out { C.out crew.old ≡ [] }
-    requires none_posted { C.posted crew.old ≡ [] }
+    requires unposted { IsUnposted C.ready C.work C.out C.posted crew.old work.now }
     ensures journal { JournalStands (batch_of every work.now inputs limits faults) (journal_in result) }
     ensures report { IfOk result (ReportsRun (batch_of every work.now inputs limits faults)) }
     ensures lines { OnOk result (Appends (O.written out.old) (O.written out.new) (printed (all_lines (batch_of every work.now inputs limits faults)))) }
@@ -50,18 +48,13 @@ pub fn ckpt_drive<R: Threads + Sync, C: Crew, O: Sink>(
 {
     let mut notes = NoNotes;
     let mut nobody = NeverSink::new();
-    drive_by(
-        rt,
-        alloc,
-        Recovery::Rollback(every),
+    let run = BatchRun {
         work,
+        recovery: Recovery::Rollback(every),
         layout,
         inputs,
         faults,
         limits,
-        crew,
-        out,
-        &mut notes,
-        &mut nobody,
-    )
+    };
+    drive_by(rt, alloc, run, crew, out, &mut notes, &mut nobody)
 }

@@ -24,7 +24,7 @@ use Rattle.restart_log.specs.meaning.Lines.{printed}
 use Rattle.whole_run.specs.declared.recovery.Recovery.{Recovery}
 use Rattle.whole_run.specs.View.{Batch, program_in, run_in, dependence_in, end_in, lines_at, lines_below}
 
--- what a call of `drive_by` is asked to run
+-- a batch of this work
 abbrev pub batch_of : Recovery → Work → Inputs → Limits → Faults → Batch
 batch_of recovery w inputs limits faults = record { work = w; recovery = recovery; inputs = inputs; limits = limits; faults = faults.list }
 

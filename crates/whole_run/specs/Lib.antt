@@ -4,6 +4,7 @@ pub mod Gives
 pub mod Laws
 pub mod Notes
 pub mod Recovering
+pub mod Starting
 pub mod Takes
 pub mod View
 pub mod inner

@@ -1,24 +1,22 @@
 // A whole run.
-ghost use Rattle.std.specs.Prelude.{◌≡◌, [], IfOk, IfErr, OnOk};
+ghost use Rattle.std.specs.Prelude.{◌≡◌, IfOk, IfErr, OnOk};
 ghost use Rattle.std.specs.Io.KnownBytes.{Appends};
-ghost use Rattle.subthread.specs.Tasks.{Suits};
+ghost use Rattle.crew.specs.Unposted.{IsUnposted};
 ghost use Rattle.restart_log.specs.meaning.Lines.{printed};
-ghost use Rattle.whole_run.specs.Recovering.{HasCuts};
 ghost use Rattle.whole_run.specs.View.{begun, Stands};
+ghost use Rattle.whole_run.specs.Starting.{CanBegin, batch_asked};
 ghost use Rattle.whole_run.specs.Notes.{NotesRun};
-ghost use Rattle.whole_run.specs.Drive.{batch_of, journal_in, JournalStands, ReportsRun, all_lines, WritesRetired, HasRunCauses, ArePosts, IsUntaken, RanOut};
+ghost use Rattle.whole_run.specs.Drive.{journal_in, JournalStands, ReportsRun, all_lines, WritesRetired, HasRunCauses, ArePosts, IsUntaken, RanOut};
 
-use crate::Recovery;
+use crate::BatchRun;
 use crate::calls::Calls;
 use crate::engine::Engine;
 use crate::rounds::run_rounds;
 use crew::{Crew, Notes};
-use gp_base::{Faults, Inputs, Journal, Limits, Seq, Sink};
+use gp_base::{Journal, Seq, Sink};
 use reorder_list::{EngineStop, Report, StopWhy};
 use std::alloc::Global;
 use std::thread::Threads;
-use subthread::Work;
-use task_ast::Layout;
 
 // Goes on with a run from its beginning, and tells what it came to.
 fn finish<R: Threads + Sync, E: Calls, C: Crew, O: Sink, N: Notes, L: Sink>(
@@ -31,10 +29,7 @@ fn finish<R: Threads + Sync, E: Calls, C: Crew, O: Sink, N: Notes, L: Sink>(
 ) -> Result<Report, EngineStop>
     requires stands { Stands (E.view engine) }
     requires begun { E.view engine ≡ begun (E.view engine).batch }
-    requires ready { C.ready crew.old }
-    requires work { C.work crew.old ≡ (E.view engine).batch.work }
-    requires none_out { C.out crew.old ≡ [] }
-    requires none_posted { C.posted crew.old ≡ [] }
+    requires unposted { IsUnposted C.ready C.work C.out C.posted crew.old (E.view engine).batch.work }
     ensures journal { JournalStands (E.view engine).batch (journal_in result) }
     ensures report { IfOk result (ReportsRun (E.view engine).batch) }
     ensures lines { OnOk result (Appends (O.written out.old) (O.written out.new) (printed (all_lines (E.view engine).batch))) }
@@ -56,10 +51,10 @@ fn finish<R: Threads + Sync, E: Calls, C: Crew, O: Sink, N: Notes, L: Sink>(
     }
 }
 
-/// Runs a batch with a crew, which has not been posted to, recovering so from faults, and writes the printed lines to
-/// `out`: at the end exactly those of the plain run. Nothing else is written. Where the output takes no more or memory
-/// is out, the run stops: all lines of each position that retired are written, and at most a part of those of the next.
-/// It always returns; some attempts that were ended may still be out with the crew.
+/// Runs a batch with a crew, which has not been posted to, and writes the printed lines to `out`: at the end exactly
+/// those of the plain run. Nothing else is written. Where the output takes no more or memory is out, the run stops: all
+/// lines of each position that retired are written, and at most a part of those of the next. It always returns; some
+/// attempts that were ended may still be out with the crew.
 ///
 /// What is applied is noted, and each position that retires is told to `log`, once its lines are written: where the run
 /// restarts selectively, with what its subthread leaves in the plain run. Where the run stops, a part of the last one
@@ -67,35 +62,26 @@ fn finish<R: Threads + Sync, E: Calls, C: Crew, O: Sink, N: Notes, L: Sink>(
 pub fn drive_by<R: Threads + Sync, C: Crew, O: Sink, N: Notes, L: Sink>(
     rt: &R,
     alloc: Global,
-    recovery: Recovery,
-    work: &Work,
-    layout: Layout,
-    inputs: Inputs,
-    faults: Faults,
-    limits: Limits,
+    run: BatchRun<'_>,
     crew: &mut C,
     out: &mut O,
     notes: &mut N,
     log: &mut L,
 ) -> Result<Report, EngineStop>
-    requires suits { Suits work.now layout inputs limits }
-    requires cuts { HasCuts recovery }
-    requires ready { C.ready crew.old }
-    requires work { C.work crew.old ≡ work.now }
-    requires none_out { C.out crew.old ≡ [] }
-    requires none_posted { C.posted crew.old ≡ [] }
-    ensures journal { JournalStands (batch_of recovery work.now inputs limits faults) (journal_in result) }
-    ensures report { IfOk result (ReportsRun (batch_of recovery work.now inputs limits faults)) }
-    ensures lines { OnOk result (Appends (O.written out.old) (O.written out.new) (printed (all_lines (batch_of recovery work.now inputs limits faults)))) }
-    ensures partly { WritesRetired (batch_of recovery work.now inputs limits faults) (O.written out.old) (O.written out.new) (journal_in result) }
+    requires begins { CanBegin run }
+    requires unposted { IsUnposted C.ready C.work C.out C.posted crew.old run.work.now }
+    ensures journal { JournalStands (batch_asked run.entry) (journal_in result) }
+    ensures report { IfOk result (ReportsRun (batch_asked run.entry)) }
+    ensures lines { OnOk result (Appends (O.written out.old) (O.written out.new) (printed (all_lines (batch_asked run.entry)))) }
+    ensures partly { WritesRetired (batch_asked run.entry) (O.written out.old) (O.written out.new) (journal_in result) }
     ensures cause { HasRunCauses (O.faults out.old) (O.faults out.new) (L.faults log.old) (L.faults log.new) result }
-    ensures notes { NotesRun (N.tells notes.old) (N.tells notes.new) N.part (batch_of recovery work.now inputs limits faults) (L.written log.old) (L.written log.new) result }
+    ensures notes { NotesRun (N.tells notes.old) (N.tells notes.new) N.part (batch_asked run.entry) (L.written log.old) (L.written log.new) result }
     ensures ready { C.ready crew.new }
     ensures work { C.work crew.new ≡ C.work crew.old }
     ensures posts { ArePosts (C.posted crew.new) (journal_in result) }
     ensures out { ¬ RanOut result → IsUntaken (C.out crew.new) (journal_in result) }
 {
-    match Engine::new(alloc, recovery, work, layout, inputs, faults, limits) {
+    match Engine::new(alloc, run) {
         Ok(engine) => finish(rt, engine, crew, out, notes, log),
         Err(_) => Err(EngineStop {
             why: StopWhy::OutOfMemory,

@@ -1,13 +1,11 @@
 // The engine over its real parts.
 
-use crate::Recovery;
+use crate::BatchRun;
 use crate::parts::{FaultsInOrder, Parts, Plan, begin};
-use gp_base::{Faults, Inputs, Limits};
+use gp_base::Inputs;
 use std::alloc::{AllocError, Global};
 use std::marker::Model;
 use std::snapshot::Snapshot;
-use subthread::Work;
-use task_ast::Layout;
 
 /// A run while it goes on. Contracts see what it was begun with, its events and its end where that is known, and how
 /// many events it has room for. All that stands between two calls stands in the type.
@@ -39,26 +37,22 @@ impl<'a> Model for Engine<'a> {
 
 impl<'a> Engine<'a> {
     ghost use Rattle.std.specs.Prelude.{◌≡◌, IfOk};
-    ghost use Rattle.subthread.specs.Tasks.{Suits};
     ghost use Rattle.whole_run.specs.View.{begun};
-    ghost use Rattle.whole_run.specs.Drive.{batch_of};
-    ghost use Rattle.whole_run.specs.Recovering.{HasCuts};
+    ghost use Rattle.whole_run.specs.Starting.{CanBegin, batch_asked};
 
-    /// A run of this work that begins, which recovers so, with this layout, these inputs and faults, within these
-    /// limits. The error is that memory is out.
-    pub fn new(
-        alloc: Global,
-        recovery: Recovery,
-        work: &'a Work,
-        layout: Layout,
-        inputs: Inputs,
-        faults: Faults,
-        limits: Limits,
-    ) -> Result<Engine<'a>, AllocError>
-        requires suits { Suits work.now layout inputs limits }
-        requires cuts { HasCuts recovery }
-        ensures { IfOk result (λ engine. engine.view ≡ begun (batch_of recovery work.now inputs limits faults)) }
+    /// A run of this batch that begins. The error is that memory is out.
+    pub fn new(alloc: Global, run: BatchRun<'a>) -> Result<Engine<'a>, AllocError>
+        requires { CanBegin run }
+        ensures { IfOk result (λ engine. engine.view ≡ begun (batch_asked run.entry)) }
     {
+        let BatchRun {
+            work,
+            recovery,
+            layout,
+            inputs,
+            faults,
+            limits,
+        } = run;
         let plan = Plan {
             work,
             recovery,

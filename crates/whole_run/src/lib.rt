@@ -4,6 +4,7 @@
 //! rollbacks to checkpoints, beside which these are measured.
 #![tactic(auto)]
 
+mod batch;
 mod calls;
 mod driver;
 mod engine;
@@ -13,6 +14,7 @@ mod parts;
 mod recovery;
 mod rounds;
 
+pub use batch::BatchRun;
 pub use calls::{Calls, Halt, Issued};
 pub use driver::drive_by;
 pub use engine::Engine;

@@ -14,11 +14,11 @@ pub run_rounds-requires-clause-agrees : goal.run_rounds-requires-clause-agrees
 run_rounds-requires-clause-agrees g c lifetimes within =
     record {
       stands = c.requires.stands;
-      is_ready = c.requires.ready;
-      work_is = c.requires.work;
+      is_ready = c.requires.unposted.ready;
+      work_is = c.requires.unposted.work;
       crew = rw c.requires.begun
           (crew-begun (g.E.Calls.view c.args.engine).batch (g.C.Crew.posted c.args.crew.now) (g.C.Crew.out c.args.crew.now)
-          c.requires.none_posted c.requires.none_out);
+          c.requires.unposted.none_posted c.requires.unposted.none_out);
     }
 
 pub into_report-requires : goal.into_report-requires
@@ -104,11 +104,11 @@ returns-in-Err-clause-out g c other =
 
 pub returns-in-Ok-clause-work : goal.returns-in-Ok-clause-work
 returns-in-Ok-clause-work g c =
-    c.run_rounds.ensures.leaves.work_is ∙ (ap (λ batch. batch.work) c.run_rounds.ensures.leaves.onward.batch ∙ sym c.requires.work)
+    c.run_rounds.ensures.leaves.work_is ∙ (ap (λ batch. batch.work) c.run_rounds.ensures.leaves.onward.batch ∙ sym c.requires.unposted.work)
 
 pub returns-in-Err-clause-work : goal.returns-in-Err-clause-work
 returns-in-Err-clause-work g c =
-    c.run_rounds.ensures.leaves.work_is ∙ (ap (λ batch. batch.work) c.run_rounds.ensures.leaves.onward.batch ∙ sym c.requires.work)
+    c.run_rounds.ensures.leaves.work_is ∙ (ap (λ batch. batch.work) c.run_rounds.ensures.leaves.onward.batch ∙ sym c.requires.unposted.work)
 
 pub returns-in-Ok-clause-notes : goal.returns-in-Ok-clause-notes
 returns-in-Ok-clause-notes g c =
