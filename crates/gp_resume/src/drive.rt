@@ -9,12 +9,13 @@ ghost use Rattle.task_ast.specs.Plain.{Plain};
 ghost use Rattle.task_ast.specs.meaning.Layout.{layout};
 ghost use Rattle.record_store.specs.Stored.{IsAllHome};
 ghost use Rattle.subthread.specs.Tasks.{program_in};
+ghost use Rattle.crew.specs.Unposted.{IsUnposted};
 ghost use Rattle.restart_log.specs.meaning.Lines.{printed};
 ghost use Rattle.retirement_log.specs.meaning.Rows.{Retirement};
 ghost use Rattle.gp_resume.specs.meaning.Reading.{IsLogOf};
 ghost use Rattle.gp_resume.specs.meaning.Resumed.{lines_of, lines, count};
 ghost use Rattle.gp_resume.specs.Resuming.{AnswersLog, IsRefused, DrivesRest, HasResumeCause};
-ghost use Rattle.gp_resume.specs.Starting.{IsUnposted, MayBegin};
+ghost use Rattle.gp_resume.specs.Starting.{MayBegin};
 ghost use Rattle.gp_resume.specs.inner.Course.{IsSuited, IsBegun, Stands, Begins};
 ghost use Rattle.gp_resume.specs.inner.Going.{rest, WentOn, firsts_from, Replays};
 
@@ -57,7 +58,7 @@ fn go_on<R: Threads + Sync, C: Crew, O: Sink>(
 ) -> Result<End, ResumeStop>
     requires suits { IsSuited plan.now }
     requires stands { (x : Plain) × Stands plan.now x course.old }
-    requires unposted { IsUnposted C.ready C.work C.out C.posted plan.now.work.now crew.old }
+    requires unposted { IsUnposted C.ready C.work C.out C.posted crew.old plan.now.work.now }
     ensures end { IfOk result (λ end. (x : Plain) → Stands plan.now x course.old → WentOn plan.now x end course.new) }
     ensures lines { OnOk result ((x : Plain) → Stands plan.now x course.old → Appends (O.written out.old) (O.written out.new) (printed (lines_of (rest plan.now x)))) }
     ensures partly { (x : Plain) → Stands plan.now x course.old → AppendsPrefix (O.written out.old) (O.written out.new) (printed (lines_of (rest plan.now x))) }

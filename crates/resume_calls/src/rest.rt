@@ -3,7 +3,7 @@ ghost use Rattle.std.specs.Prelude.{◌≤◌, length};
 ghost use Rattle.gp_base.specs.declared.limits.TheConstants.{MOST_FILE_BYTES};
 ghost use Rattle.task_ast.specs.View.{plain_program};
 ghost use Rattle.lock_checker.specs.Accepted.{program_of};
-ghost use Rattle.gp_resume.specs.Starting.{IsUnposted};
+ghost use Rattle.crew.specs.Unposted.{IsUnposted};
 ghost use Rattle.call_cases.specs.meaning.Answers.{change_of};
 ghost use Rattle.resume_calls.specs.inner.Resting.{IsPlanOf, PutsFirst, PutsTail, Resumes};
 
@@ -58,7 +58,7 @@ pub fn put_rest<R: Threads + Sync, C: Crew, O: Sink>(
 ) -> Result<u8, ResumeStop>
     requires planned { IsPlanOf paced.work.now plan }
     requires short { length log.now ≤ MOST_FILE_BYTES }
-    requires unposted { IsUnposted C.ready C.work C.out C.posted paced.work.now crew.old }
+    requires unposted { IsUnposted C.ready C.work C.out C.posted crew.old paced.work.now }
     ensures { Resumes (plain_program (program_of plan.checked)) plan.opening.inputs plan.opening.limits log.now (change_of O.written O.faults out.old out.new) result }
 {
     let OpenedRun { checked, opening } = plan;

@@ -35,8 +35,8 @@ going-init g c =
     record {
       went = λ x stands. went-first c.args.plan.now x (g.O.Sink.written c.args.out.now) (g.C.Crew.posted c.args.crew.now) c.args.course.now
           stands c.requires.unposted.none_posted;
-      is_ready = c.requires.unposted.is_ready;
-      work_is = c.requires.unposted.work_is;
+      is_ready = c.requires.unposted.ready;
+      work_is = c.requires.unposted.work;
       none_out = c.requires.unposted.none_out;
       later = omega arith;
     }
