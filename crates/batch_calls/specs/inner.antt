@@ -1,5 +1,4 @@
 -- What describes parts of the crate alone.
-pub mod Fresh
 pub mod Logged
 pub mod Planned
 pub mod Ran

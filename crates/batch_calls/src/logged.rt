@@ -1,11 +1,11 @@
 // Carries a run out of which a log is kept, and writes its text, and the log while it goes on.
 ghost use Rattle.std.specs.Prelude.{◌≡◌, ◌⊎◌, ℕ, List, length};
+ghost use Rattle.crew.specs.Unposted.{IsUnposted};
 ghost use Rattle.command_line.specs.declared.asked.Command.TheVariants as command;
 ghost use Rattle.call_cases.specs.meaning.Answers.{Change, Fails, change_of};
 ghost use Rattle.call_cases.specs.meaning.PlainText.{plain_ran, restarts_in};
 ghost use Rattle.call_cases.specs.meaning.Texts.{run_text};
 ghost use Rattle.call_cases.specs.meaning.Work.{ToDo};
-ghost use Rattle.batch_calls.specs.inner.Fresh.{IsFresh};
 ghost use Rattle.batch_calls.specs.inner.Logged.{IsLogged, LogsFor, stop_status};
 ghost use Rattle.batch_calls.specs.inner.Planned.{IsPlanned, work_planned};
 ghost use Rattle.batch_calls.specs.inner.Ran.{RunsIf, RanIf};
@@ -33,7 +33,7 @@ fn put_noted<R: Threads + Sync, C: Crew, O: Sink, L: Sink>(
     log: &mut L,
 ) -> Result<Report, EngineStop>
     requires planned { IsPlanned basis.now.plan.now basis.now.work.now begins }
-    requires fresh { IsFresh C.ready C.work C.out C.posted crew.old basis.now.work.now }
+    requires unposted { IsUnposted C.ready C.work C.out C.posted crew.old basis.now.work.now }
     requires run { basis.now.plan.now.asked.command ≡ command.Log }
     ensures lines { let taken = change_of O.written O.faults out.old out.new in let logged = change_of L.written L.faults log.old log.new in
         RunsIf (Fails taken ⊎ Fails logged) (work_planned basis.now.plan.now begins) taken result }
@@ -64,7 +64,7 @@ pub fn put_logged<R: Threads + Sync, C: Crew, O: Sink, L: Sink>(
     log: &mut L,
 ) -> Result<Report, EngineStop>
     requires planned { IsPlanned basis.now.plan.now basis.now.work.now begins }
-    requires fresh { IsFresh C.ready C.work C.out C.posted crew.old basis.now.work.now }
+    requires unposted { IsUnposted C.ready C.work C.out C.posted crew.old basis.now.work.now }
     requires run { basis.now.plan.now.asked.command ≡ command.Log }
     ensures text { let taken = change_of O.written O.faults out.old out.new in let logged = change_of L.written L.faults log.old log.new in
         let work = work_planned basis.now.plan.now begins in

@@ -4,6 +4,7 @@ ghost use Rattle.std.specs.Io.KnownBytes.{Appends};
 ghost use Rattle.gp_base.specs.meaning.Sinks.{AppendsPrefix, HasCause};
 ghost use Rattle.task_ast.specs.View.{plain_program};
 ghost use Rattle.lock_checker.specs.Accepted.{program_of};
+ghost use Rattle.crew.specs.Unposted.{IsUnposted};
 ghost use Rattle.restart_log.specs.meaning.Trace.{trace_text};
 ghost use Rattle.command_line.specs.declared.asked.Command.TheVariants as command;
 ghost use Rattle.command_line.specs.declared.asked.Asked.{Asked};
@@ -13,7 +14,6 @@ ghost use Rattle.call_cases.specs.meaning.PlainText.{plain_ran, restarts_in};
 ghost use Rattle.call_cases.specs.meaning.RunCommands.{end_status};
 ghost use Rattle.call_cases.specs.meaning.Texts.{run_text, run_soak};
 ghost use Rattle.call_cases.specs.meaning.Work.{ToDo};
-ghost use Rattle.batch_calls.specs.inner.Fresh.{IsFresh};
 ghost use Rattle.batch_calls.specs.inner.Planned.{IsPlanned, Carries, work_planned};
 ghost use Rattle.batch_calls.specs.inner.Ran.{RanFor, RunsWork, EndsFor, StopsWith, WritesLines, why_of, fault_of, told_tail, told_soak};
 ghost use Rattle.batch_calls.specs.inner.Ways.{Writes};
@@ -146,7 +146,7 @@ fn put_lines<R: Threads + Sync, C: Crew, O: Sink>(
     out: &mut O,
 ) -> Result<Report, EngineStop>
     requires planned { IsPlanned basis.now.plan.now basis.now.work.now begins }
-    requires fresh { IsFresh C.ready C.work C.out C.posted crew.old basis.now.work.now }
+    requires unposted { IsUnposted C.ready C.work C.out C.posted crew.old basis.now.work.now }
     ensures { RunsWork (work_planned basis.now.plan.now begins) (change_of O.written O.faults out.old out.new) result }
 {
     let Begins {
@@ -175,7 +175,7 @@ fn put_run<R: Threads + Sync, C: Crew, O: Sink>(
     out: &mut O,
 ) -> Result<Report, EngineStop>
     requires planned { IsPlanned basis.now.plan.now basis.now.work.now begins }
-    requires fresh { IsFresh C.ready C.work C.out C.posted crew.old basis.now.work.now }
+    requires unposted { IsUnposted C.ready C.work C.out C.posted crew.old basis.now.work.now }
     requires lines { WritesLines basis.now.plan.now.asked.command }
     ensures { let work = work_planned basis.now.plan.now begins in
         RanFor work (run_text (plain_ran work) (restarts_in work) (length work.faults)) (change_of O.written O.faults out.old out.new) result }
@@ -208,7 +208,7 @@ fn put_soak<R: Threads + Sync, C: Crew, O: Sink>(
     out: &mut O,
 ) -> Result<Report, EngineStop>
     requires planned { IsPlanned basis.now.plan.now basis.now.work.now begins }
-    requires fresh { IsFresh C.ready C.work C.out C.posted crew.old basis.now.work.now }
+    requires unposted { IsUnposted C.ready C.work C.out C.posted crew.old basis.now.work.now }
     requires run { basis.now.plan.now.asked.command ≡ command.Soak soak }
     ensures { let work = work_planned basis.now.plan.now begins in
         RanFor work (run_soak soak (plain_ran work) (restarts_in work) (length work.faults)) (change_of O.written O.faults out.old out.new) result }
@@ -282,7 +282,7 @@ pub fn carry_by<R: Threads + Sync, C: Crew, O: Sink, E: Sink>(
 ) -> Outcome
     requires planned { IsPlanned basis.now.plan.now basis.now.work.now begins }
     requires writes { Writes basis.now.plan.now.asked.command basis.now.output }
-    requires fresh { IsFresh C.ready C.work C.out C.posted crew.old basis.now.work.now }
+    requires unposted { IsUnposted C.ready C.work C.out C.posted crew.old basis.now.work.now }
     ensures { Carries basis.now.plan.now.asked (work_planned basis.now.plan.now begins) (change_of O.written O.faults out.old out.new) (change_of E.written E.faults err.old err.new) result.status result.journal }
 {
     match basis.output {

@@ -3,12 +3,12 @@ ghost use Rattle.std.specs.Prelude.{◌≡◌, IfOk};
 ghost use Rattle.std.specs.Arc.{arc_value};
 ghost use Rattle.task_ast.specs.View.{plain_program};
 ghost use Rattle.lock_checker.specs.Accepted.{program_of};
+ghost use Rattle.crew.specs.Unposted.{IsUnposted};
 ghost use Rattle.command_line.specs.meaning.Words.{texts, asked_waiting};
 ghost use Rattle.call_cases.specs.meaning.Answers.{change_of};
 ghost use Rattle.call_cases.specs.Decided.{IsSound, MayRun, work_of};
 ghost use Rattle.call_cases.specs.meaning.Headline.{Headline, ReadsNothing};
 ghost use Rattle.batch_calls.specs.meaning.WaitingCommands.{commands};
-ghost use Rattle.batch_calls.specs.inner.Fresh.{IsFresh};
 ghost use Rattle.batch_calls.specs.inner.Planned.{IsPlanned, Carries, work_planned};
 ghost use Rattle.batch_calls.specs.inner.Ways.{Writes};
 
@@ -63,7 +63,7 @@ fn lasting<
     gate: &Arc<G>,
 ) -> Result<PipeCrew<'a, R, G>, AllocError>
     ensures { IfOk result (λ crew. let told = ⟦<PipeCrew<'a, R, G> as Crew>⟧ in
-        IsFresh told.ready told.work told.out told.posted crew (arc_value work.now)) }
+        IsUnposted told.ready told.work told.out told.posted crew (arc_value work.now)) }
 {
     let theirs = rt.clone()?;
     PipeCrew::new(alloc, theirs, work, workers, gate)
