@@ -25,103 +25,8 @@ use std::thread::Threads;
 use steal_crew::{StealCrew, run_steal};
 use subthread::{Done, Recheck, Task, Work};
 
-// Runs what is planned in the calling thread.
-fn carry_inline<R: Threads + Sync, O: Sink, E: Sink, G: Gate>(
-    rt: &R,
-    alloc: Global,
-    basis: &Basis,
-    begins: Begins,
-    out: &mut O,
-    err: &mut E,
-    gate: &G,
-) -> Outcome
-    requires planned { IsPlanned basis.now.plan.now basis.now.work.now begins }
-    requires writes { Writes basis.now.plan.now.asked.command basis.now.output }
-    ensures { Carries basis.now.plan.now.asked (work_planned basis.now.plan.now begins) (change_of O.written O.faults out.old out.new) (change_of E.written E.faults err.old err.new) result.status result.journal }
-{
-    let mut crew = InlineCrew::new(alloc, basis.work, gate);
-    carry_by(rt, alloc, basis, begins, &mut crew, out, err)
-}
-
-// Runs what is planned by waves of workers.
-fn carry_waves<R: Threads + Sync, O: Sink, E: Sink, G: Gate>(
-    rt: &R,
-    alloc: Global,
-    basis: &Basis,
-    begins: Begins,
-    out: &mut O,
-    err: &mut E,
-    gate: &G,
-) -> Outcome
-    requires planned { IsPlanned basis.now.plan.now basis.now.work.now begins }
-    requires writes { Writes basis.now.plan.now.asked.command basis.now.output }
-    ensures { Carries basis.now.plan.now.asked (work_planned basis.now.plan.now begins) (change_of O.written O.faults out.old out.new) (change_of E.written E.faults err.old err.new) result.status result.journal }
-{
-    let work = basis.work;
-    let workers = basis.plan.asked.workers;
-    let mean_steps = MeanSteps::new(alloc, work);
-    let run_all = |tasks: Seq<Task>| -> Result<Seq<Done>, AllocError>
-        requires { All (Fits work.now) tasks }
-        ensures { IfOk result (AreRuns work.entry.now tasks) }
-    { run_wave(rt, alloc, work, gate, &mean_steps, workers, tasks) };
-    let mut crew = BatchCrew::new(alloc, work, run_all);
-    carry_by(rt, alloc, basis, begins, &mut crew, out, err)
-}
-
-// Runs what is planned by workers that draw from boards.
-fn carry_boards<R: Threads + Sync, O: Sink, E: Sink, G: Gate>(
-    rt: &R,
-    alloc: Global,
-    basis: &Basis,
-    begins: Begins,
-    out: &mut O,
-    err: &mut E,
-    gate: &G,
-) -> Outcome
-    requires planned { IsPlanned basis.now.plan.now basis.now.work.now begins }
-    requires writes { Writes basis.now.plan.now.asked.command basis.now.output }
-    ensures { Carries basis.now.plan.now.asked (work_planned basis.now.plan.now begins) (change_of O.written O.faults out.old out.new) (change_of E.written E.faults err.old err.new) result.status result.journal }
-{
-    let work = basis.work;
-    let workers = basis.plan.asked.workers;
-    let mean_steps = MeanSteps::new(alloc, work);
-    let run_all = |tasks: Seq<Task>| -> Result<Seq<Done>, AllocError>
-        requires { All (Fits work.now) tasks }
-        ensures { IfOk result (AreRuns work.entry.now tasks) }
-    {
-        let (runs, _passes) = run_board(rt, alloc, work, gate, &mean_steps, workers, tasks)?;
-        Ok(runs)
-    };
-    let mut crew = BatchCrew::new(alloc, work, run_all);
-    carry_by(rt, alloc, basis, begins, &mut crew, out, err)
-}
-
-// Runs what is planned by workers that steal from one another.
-fn carry_stealing<R: Threads + Sync, O: Sink, E: Sink, G: Gate>(
-    rt: &R,
-    alloc: Global,
-    basis: &Basis,
-    begins: Begins,
-    out: &mut O,
-    err: &mut E,
-    gate: &G,
-) -> Outcome
-    requires planned { IsPlanned basis.now.plan.now basis.now.work.now begins }
-    requires writes { Writes basis.now.plan.now.asked.command basis.now.output }
-    ensures { Carries basis.now.plan.now.asked (work_planned basis.now.plan.now begins) (change_of O.written O.faults out.old out.new) (change_of E.written E.faults err.old err.new) result.status result.journal }
-{
-    let work = basis.work;
-    let workers = basis.plan.asked.workers;
-    let mean_steps = MeanSteps::new(alloc, work);
-    let run_all = |tasks: Seq<Task>| -> Result<(Seq<Done>, (u64, u64, u64)), AllocError>
-        requires { All (Fits work.now) tasks }
-        ensures { IfOk result (AreCounted work.entry.now tasks) }
-    { run_steal(rt, alloc, work, gate, &mean_steps, workers, tasks) };
-    let mut crew = StealCrew::new(alloc, work, run_all);
-    carry_by(rt, alloc, basis, begins, &mut crew, out, err)
-}
-
-// Runs what is planned by the crew that is asked for. Lasting workers wait, which this call does not: in their place
+// Runs what is planned by the crew that is asked for: in the calling thread, by waves of workers, by workers that steal
+// from one another, or by workers that draw from boards. Lasting workers wait, which this call does not: in their place
 // workers draw from boards.
 fn carry_by_kind<R: Threads + Sync, O: Sink, E: Sink, G: Gate>(
     rt: &R,
@@ -136,11 +41,43 @@ fn carry_by_kind<R: Threads + Sync, O: Sink, E: Sink, G: Gate>(
     requires writes { Writes basis.now.plan.now.asked.command basis.now.output }
     ensures { Carries basis.now.plan.now.asked (work_planned basis.now.plan.now begins) (change_of O.written O.faults out.old out.new) (change_of E.written E.faults err.old err.new) result.status result.journal }
 {
+    let work = basis.work;
+    let workers = basis.plan.asked.workers;
     match basis.plan.asked.crew {
-        CrewKind::One => carry_inline(rt, alloc, basis, begins, out, err, gate),
-        CrewKind::Wave => carry_waves(rt, alloc, basis, begins, out, err, gate),
-        CrewKind::Steal => carry_stealing(rt, alloc, basis, begins, out, err, gate),
-        CrewKind::Board | CrewKind::Pipe => carry_boards(rt, alloc, basis, begins, out, err, gate),
+        CrewKind::One => {
+            let mut crew = InlineCrew::new(alloc, work, gate);
+            carry_by(rt, alloc, basis, begins, &mut crew, out, err)
+        }
+        CrewKind::Wave => {
+            let mean_steps = MeanSteps::new(alloc, work);
+            let run_all = |tasks: Seq<Task>| -> Result<Seq<Done>, AllocError>
+                requires { All (Fits work.now) tasks }
+                ensures { IfOk result (AreRuns work.entry.now tasks) }
+            { run_wave(rt, alloc, work, gate, &mean_steps, workers, tasks) };
+            let mut crew = BatchCrew::new(alloc, work, run_all);
+            carry_by(rt, alloc, basis, begins, &mut crew, out, err)
+        }
+        CrewKind::Steal => {
+            let mean_steps = MeanSteps::new(alloc, work);
+            let run_all = |tasks: Seq<Task>| -> Result<(Seq<Done>, (u64, u64, u64)), AllocError>
+                requires { All (Fits work.now) tasks }
+                ensures { IfOk result (AreCounted work.entry.now tasks) }
+            { run_steal(rt, alloc, work, gate, &mean_steps, workers, tasks) };
+            let mut crew = StealCrew::new(alloc, work, run_all);
+            carry_by(rt, alloc, basis, begins, &mut crew, out, err)
+        }
+        CrewKind::Board | CrewKind::Pipe => {
+            let mean_steps = MeanSteps::new(alloc, work);
+            let run_all = |tasks: Seq<Task>| -> Result<Seq<Done>, AllocError>
+                requires { All (Fits work.now) tasks }
+                ensures { IfOk result (AreRuns work.entry.now tasks) }
+            {
+                let (runs, _) = run_board(rt, alloc, work, gate, &mean_steps, workers, tasks)?;
+                Ok(runs)
+            };
+            let mut crew = BatchCrew::new(alloc, work, run_all);
+            carry_by(rt, alloc, basis, begins, &mut crew, out, err)
+        }
     }
 }
 
