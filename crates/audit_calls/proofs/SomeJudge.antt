@@ -331,7 +331,8 @@ read_from (suc fuel) bytes lines (b ∷ rest) short narrow is =
 pub some_reading : (bytes : List ℕ) → (result : Result (List TraceLine) ℕ) × Reads bytes result
 some_reading bytes = read_from (length bytes) bytes [] bytes (omega arith) (All-nil IsNarrowLine) refl
 
-pub some_verdict : (dependence : Dependence) (faults : List Fault) (lines : List TraceLine) → (verdict : Verdict) × IsVerdict dependence faults lines verdict
+pub some_verdict : (dependence : Dependence) (faults : List Fault) (lines : List TraceLine)
+    → (verdict : Verdict) × IsVerdict dependence faults lines verdict
 some_verdict dependence faults lines =
     let found = judged dependence faults lines in (found.0, told-verdict dependence faults lines found.0 found.1)
 

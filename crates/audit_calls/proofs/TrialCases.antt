@@ -38,7 +38,8 @@ use Rattle.audit_calls.proofs.SomeJudge.{some_reading, some_judge}
 
 -- what comes of the bytes of a trace, where another file is read before
 judges_shift : (file first : Name) (names : List Name) (work : ToDo) (bytes : List ℕ) (case : Case Verdict)
-    → Judges file (first ∷ names) work bytes case → (found : Case Verdict) × Judges file names work bytes found × (case ≡ after_file first found)
+    → Judges file (first ∷ names) work bytes case → (found : Case Verdict) × Judges file names work bytes found
+    × (case ≡ after_file first found)
 judges_shift file first names work bytes case (of_lines {lines} {verdict} is judged) = (Go names verdict, of_lines is judged, refl)
 judges_shift file first names work bytes case (of_row is) = (_, of_row is, refl)
 
@@ -52,7 +53,11 @@ judges_some : (file : Name) (names : List Name) (work : ToDo) (bytes : List ℕ)
 judges_some file names work bytes = let found = some_reading bytes in go found.0 found.1
   where
     go : (result : Result (List TraceLine) ℕ) → Reads bytes result → (case : Case Verdict) × Judges file names work bytes case
-    go (Ok lines) is = (Go names (tried_with some_judge work lines), of_lines is (some_judge.judges (dependence_for work) work.faults lines))
+    go (Ok lines) is = (
+      Go names (tried_with some_judge work lines),
+      of_lines is
+          (some_judge.judges (dependence_for work) work.faults lines),
+    )
     go (Err row) is = (_, of_row is)
 
 judges_one : (file : Name) (names : List Name) (work : ToDo) (bytes : List ℕ) (a b : Case Verdict) → Judges file names work bytes a
@@ -78,14 +83,16 @@ Next audited files names work case = Traced names audited.trace work (bytes_of f
 abbrev Comes : Audited → ToDo → List Name → List ℕ → Case Verdict → Type 0
 Comes audited work names text case = Judges audited.trace names work text case
 
-next_some : (audited : Audited) (files : Files) (names : List Name) (work : ToDo) → (case : Case Verdict) × Next audited files names work case
+next_some : (audited : Audited) (files : Files) (names : List Name) (work : ToDo)
+    → (case : Case Verdict) × Next audited files names work case
 next_some audited files names work =
     file_some audited.trace (Comes audited work) (λ ns text. judges_some audited.trace ns work text) names (bytes_of files audited.trace)
 
 next_one : (audited : Audited) (files : Files) (names : List Name) (work : ToDo) (a b : Case Verdict) → Next audited files names work a
     → Next audited files names work b → a ≡ b
 next_one audited files names work a b is other =
-    file_one audited.trace (Comes audited work) (λ ns text x y. judges_one audited.trace ns work text x y) names (bytes_of files audited.trace)
+    file_one audited.trace (Comes audited work) (λ ns text x y. judges_one audited.trace ns work text x y) names
+    (bytes_of files audited.trace)
     a b is other
 
 pub supplies_once : SuppliesOne asking
@@ -105,7 +112,8 @@ module _ (audited : Audited) (files : Files) where
   next_reads : (names : List Name) (work : ToDo) (case : Case Verdict) → Next audited files names work case → (name : Name)
       → Contains (names ++ audited.trace ∷ []) name → Contains (names_read case) name
   next_reads names work case is name has =
-      file_reads audited.trace (Comes audited work) (λ ns text c. judges_read audited.trace ns work text c) names (bytes_of files audited.trace)
+      file_reads audited.trace (Comes audited work) (λ ns text c. judges_read audited.trace ns work text c) names
+      (bytes_of files audited.trace)
       case is name has
 
   case_after : (names : List Name) (work : ToDo) (case : Case Verdict) → IsCaseOf run.asking audited.run files (Go names work)
@@ -125,7 +133,8 @@ module _ (audited : Audited) (files : Files) where
     pub lines_case : (names : List Name) (work : ToDo) (lines : List TraceLine) → IsCaseOf run.asking audited.run files (Go names work)
         → AnswersLines judge names audited.trace work (bytes_of files audited.trace) (Ok lines)
         → IsCaseOf asking audited files (Go (names ++ audited.trace ∷ []) (tried_with judge work lines))
-    lines_case names work lines is answers = case_after names work (Go (names ++ audited.trace ∷ []) (tried_with judge work lines)) is answers
+    lines_case names work lines is answers = case_after names work (Go (names ++ audited.trace ∷ []) (tried_with judge work lines)) is
+        answers
 
     trace_refused : (names : List Name) (work : ToDo) (refusal : Refusal) → IsCaseOf run.asking audited.run files (Go names work)
         → AnswersLines judge names audited.trace work (bytes_of files audited.trace) (Err refusal)

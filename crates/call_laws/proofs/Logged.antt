@@ -31,7 +31,7 @@ use Rattle.command_line.specs.declared.asked.Command.TheVariants.{One, Log}
 use Rattle.call_cases.specs.meaning.Work.{Files, ToDo, is_journalled, work_for, Case, Refused, Go, after_file}
 use Rattle.call_cases.specs.meaning.Answers.{Change, TakesAll}
 use Rattle.call_cases.specs.meaning.Case.{IsCaseOf, IsCase, no_program, of_text, IsCheckedCase, IsMeantCase, ForCase, ForRun, HasWork, text_of}
-use Rattle.call_cases.specs.meaning.InputFiles.{supplied_by, supplied_for, then_load, with_faults, load_faults}
+use Rattle.call_cases.specs.meaning.InputFiles.{supplied_for, then_load, with_faults, load_faults}
 use Rattle.call_cases.specs.meaning.Journals.{run_of, retired_in, lines_before, HoldsRetired, TakesRetiredFor}
 use Rattle.call_cases.specs.meaning.RunCommands as run
 use Rattle.call_cases.specs.meaning.Headline.{Call, TellsStop, MeetsCase, Headline}
@@ -69,7 +69,8 @@ module _ (asked : Asked) (files : Files) where
   goes program (Go names work) accepted same = subst IsAccepted (sym same) accepted
   goes program (Refused status names line) accepted same = tt
 
-  checked : (program : Program) (fault : Option (CheckKind × ℕ)) (case : Case ToDo) → IsTrue (is_shaped program) → check_fault program ≡ fault
+  checked : (program : Program) (fault : Option (CheckKind × ℕ)) (case : Case ToDo) → IsTrue (is_shaped program)
+      → check_fault program ≡ fault
       → IsCheckedCase run.asking files asked program fault case → GoesAccepted case
   checked program (Some fault) case shaped is comes = subst GoesAccepted (sym comes) tt
   checked program None case shaped is (given, supplies, comes) =

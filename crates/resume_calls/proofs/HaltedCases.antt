@@ -122,10 +122,12 @@ module _ (resumed : Resumed) (files : Files) where
       → AnswersFile resumed.log (bytes_of files resumed.log) (Ok text)
       → IsCaseOf asking resumed files (by_answer resumed.log (names ++ resumed.log ∷ []) work (answer_for reader work text))
   text_case reader names work text is told =
-      case_after names work _ is (text_next names work text _ told (comes_by reader resumed work (names ++ resumed.log ∷ []) text))
+      let case = by_answer resumed.log (names ++ resumed.log ∷ []) work (answer_for reader work text) in
+      case_after names work case is (text_next names work text case told (comes_by reader resumed work (names ++ resumed.log ∷ []) text))
 
   -- and where that comes to rows, they are what there is to go on from
-  pub rows_case : (names : List Name) (work : ToDo) (text : List ℕ) (rows : List Retirement) → IsCaseOf run.asking resumed.run files (Go names work)
+  pub rows_case : (names : List Name) (work : ToDo) (text : List ℕ) (rows : List Retirement)
+      → IsCaseOf run.asking resumed.run files (Go names work)
       → AnswersFile resumed.log (bytes_of files resumed.log) (Ok text) → IsAnswer work.program work.inputs work.limits text (Rows rows)
       → IsCaseOf asking resumed files (Go (names ++ resumed.log ∷ []) (record { work = work; rows = rows }))
   rows_case names work text rows is told answer =
@@ -148,7 +150,8 @@ module _ (resumed : Resumed) (files : Files) where
   file_refused T names work before now (refused.BadProgram line) is told among = absurd told
   file_refused T names work before now (refused.BadInput line) is told among = (
     names ++ resumed.log ∷ [],
-    case_after names work (Refused 4 (names ++ resumed.log ∷ []) line) is (long_next names work (bytes_of files resumed.log) line told.0 told.1),
+    case_after names work (Refused 4 (names ++ resumed.log ∷ []) line) is
+        (long_next names work (bytes_of files resumed.log) line told.0 told.1),
   )
   file_refused T names work before now (refused.ReadFault name) is told among =
       let found = next_some resumed files names work in (
@@ -179,7 +182,8 @@ module _ (resumed : Resumed) where
       file_refused resumed files T names work before now refusal is
       (subst (λ k. IfSome k (λ told. AnswersFile resumed.log (bytes_of told resumed.log) (Err refusal))) same answers) among
 
-pub text_read : (reader : Reader) (resumed : Resumed) (files known : Option Files) (names : List Name) (work : ToDo) (text : List ℕ) → known ≡ files
+pub text_read : (reader : Reader) (resumed : Resumed) (files known : Option Files) (names : List Name) (work : ToDo) (text : List ℕ)
+    → known ≡ files
     → IfSome files (λ told. IsCaseOf run.asking resumed.run told (Go names work))
     → IfSome known (λ told. AnswersFile resumed.log (bytes_of told resumed.log) (Ok text))
     → IfSome files (λ told. IsCaseOf asking resumed told

@@ -24,7 +24,7 @@ use Rattle.call_cases.specs.meaning.Lines.{input_line}
 use Rattle.call_cases.specs.Refusals.{IsInputRefused, ReadsAmong, AnswersFile}
 use Rattle.call_cases.proofs.Loads.{only_one}
 use Rattle.view_calls.specs.Traces.{unlawful_in}
-use Rattle.view_calls.specs.meaning.Sights.{sees, unlawful, broken}
+use Rattle.view_calls.specs.meaning.Sights.{of_lines, of_unlawful, of_row}
 use Rattle.view_calls.specs.inner.Answers.{Traced, AnswersLines}
 
 -- where no line is the first that is not lawful, all are lawful
@@ -48,10 +48,11 @@ module _ (names : List Name) (file : Name) (position : Option ℕ) (work : ToDo)
       → IsVerdict (dependence_for work) work.faults lines verdict → unlawful_in verdict ≡ None
       → AnswersLines names file position work (Some text) (Ok lines)
   lines_told text lines verdict within is judged none =
-      inr (within, sees is (lawful_by (dependence_for work) work.faults lines verdict judged none))
+      inr (within, of_lines is (lawful_by (dependence_for work) work.faults lines verdict judged none))
 
   -- a row that is told
-  told_row : (text : List ℕ) (row : ℕ) (refusal : Refusal) → Traced names file position work (Some text) (Refused 4 (names ++ file ∷ []) (input_line file 1 row))
+  told_row : (text : List ℕ) (row : ℕ) (refusal : Refusal) → Traced names file position work (Some text)
+      (Refused 4 (names ++ file ∷ []) (input_line file 1 row))
       → IsInputRefused (input_line file 1 row) refusal → AnswersLines names file position work (Some text) (Err refusal)
   told_row text row Usage comes refused = refused
   told_row text row (BadProgram line) comes refused = refused
@@ -65,11 +66,12 @@ module _ (names : List Name) (file : Name) (position : Option ℕ) (work : ToDo)
       → IsVerdict (dependence_for work) work.faults lines verdict → unlawful_in verdict ≡ Some row
       → IsInputRefused (input_line file 1 row) refusal → AnswersLines names file position work (Some text) (Err refusal)
   unlawful_told text lines verdict row refusal within is judged some refused =
-      told_row text row refusal (inr (within, unlawful is (unlawful_by (dependence_for work) work.faults lines verdict row judged some))) refused
+      told_row text row refusal (inr (within, of_unlawful is (unlawful_by (dependence_for work) work.faults lines verdict row judged some)))
+      refused
 
   pub row_told : (text : List ℕ) (row : ℕ) (refusal : Refusal) → length text ≤ MOST_FILE_BYTES → IsBrokenAt text row
       → IsInputRefused (input_line file 1 row) refusal → AnswersLines names file position work (Some text) (Err refusal)
-  row_told text row refusal within is refused = told_row text row refusal (inr (within, broken is)) refused
+  row_told text row refusal within is refused = told_row text row refusal (inr (within, of_row is)) refused
 
   -- a file that was read, and one that was not
   pub file_told : (files : Option Files) (text : List ℕ) (result : Result (List TraceLine) Refusal)

@@ -33,7 +33,7 @@ use Rattle.audit_calls.proofs.Readings.{Reads, one_reading}
 use Rattle.audit_calls.proofs.SomeJudge.{some_reading, some_verdict, lawful_verdict}
 use Rattle.view_calls.specs.declared.words.Viewed.{Viewed}
 use Rattle.view_calls.specs.meaning.Commands.{MayRead, of_run, the_trace, viewed_by, asking, commands}
-use Rattle.view_calls.specs.meaning.Sights.{Sight, Sees, sees, unlawful, broken, WithTrace}
+use Rattle.view_calls.specs.meaning.Sights.{Sight, Sees, of_lines, of_unlawful, of_row, WithTrace}
 use Rattle.view_calls.specs.inner.Answers.{AnswersLines}
 
 -- what comes of the bytes of a trace
@@ -46,29 +46,31 @@ module _ (file : Name) (position : Option ℕ) (work : ToDo) where
 
   sees_shift : (first : Name) (names : List Name) (text : List ℕ) (case : Case Sight) → Comes (first ∷ names) text case
       → (found : Case Sight) × Comes names text found × (case ≡ after_file first found)
-  sees_shift first names text case (sees is lawful) = (_, sees is lawful, refl)
-  sees_shift first names text case (unlawful is judged) = (_, unlawful is judged, refl)
-  sees_shift first names text case (broken is) = (_, broken is, refl)
+  sees_shift first names text case (of_lines is lawful) = (_, of_lines is lawful, refl)
+  sees_shift first names text case (of_unlawful is judged) = (_, of_unlawful is judged, refl)
+  sees_shift first names text case (of_row is) = (_, of_row is, refl)
 
   sees_read : (names : List Name) (text : List ℕ) (case : Case Sight) → Comes names text case → names_read case ≡ names
-  sees_read names text case (sees is lawful) = refl
-  sees_read names text case (unlawful is judged) = refl
-  sees_read names text case (broken is) = refl
+  sees_read names text case (of_lines is lawful) = refl
+  sees_read names text case (of_unlawful is judged) = refl
+  sees_read names text case (of_row is) = refl
 
   sees_some : (names : List Name) (text : List ℕ) → (case : Case Sight) × Comes names text case
   sees_some names text = let found = some_reading text in go found.0 found.1
     where
-      by_verdict : (lines : List TraceLine) (verdict : Verdict) → IsTrace text lines → Judged lines verdict → (case : Case Sight) × Comes names text case
-      by_verdict lines Lawful is judged = (_, sees is judged.0)
-      by_verdict lines (Unlawful number) is judged = (_, unlawful {row = number} is judged)
-      by_verdict lines Incomplete is judged = (_, sees is judged.0)
+      by_verdict : (lines : List TraceLine) (verdict : Verdict) → IsTrace text lines → Judged lines verdict
+          → (case : Case Sight) × Comes names text case
+      by_verdict lines Lawful is judged = (_, of_lines is judged.0)
+      by_verdict lines (Unlawful number) is judged = (_, of_unlawful {row = number} is judged)
+      by_verdict lines Incomplete is judged = (_, of_lines is judged.0)
 
       go : (result : Result (List TraceLine) ℕ) → Reads text result → (case : Case Sight) × Comes names text case
       go (Ok lines) is = let found = some_verdict (dependence_for work) work.faults lines in by_verdict lines found.0 is found.1
-      go (Err row) is = (_, broken is)
+      go (Err row) is = (_, of_row is)
 
   -- lines that are lawful have no first one that is not
-  never_unlawful : (lines : List TraceLine) (row : ℕ) → LawfulLines (dependence_for work) work.faults lines → Judged lines (Unlawful row) → ⊥
+  never_unlawful : (lines : List TraceLine) (row : ℕ) → LawfulLines (dependence_for work) work.faults lines → Judged lines (Unlawful row)
+      → ⊥
   never_unlawful lines row lawful judged =
       elim (lawful_verdict (dependence_for work) work.faults lines lawful) [
         | inl whole ↦ (let never = verdict_once (dependence_for work) work.faults lines (Unlawful row) Lawful judged whole in cc never)
@@ -84,27 +86,27 @@ module _ (file : Name) (position : Option ℕ) (work : ToDo) where
   refused_at names row other same = ap (λ r. Refused 4 names (input_line file 1 r)) same
 
   sees_one : (names : List Name) (text : List ℕ) (a b : Case Sight) → Comes names text a → Comes names text b → a ≡ b
-  sees_one names text a b (sees {lines} is lawful) (sees {lines = others} is' lawful') =
+  sees_one names text a b (of_lines {lines} is lawful) (of_lines {lines = others} is' lawful') =
       ap (λ ls. Go names (record { work = work; position = position; trace = Some ls })) (same_lines text lines others is is')
-  sees_one names text a b (sees {lines} is lawful) (unlawful {lines = others} {row} is' judged) =
+  sees_one names text a b (of_lines {lines} is lawful) (of_unlawful {lines = others} {row} is' judged) =
       absurd (never_unlawful lines row lawful (subst (λ ls. Judged ls (Unlawful row)) (sym (same_lines text lines others is is')) judged))
-  sees_one names text a b (sees {lines} is lawful) (broken {row} is') =
+  sees_one names text a b (of_lines {lines} is lawful) (of_row {row} is') =
       let never = one_reading text (Ok lines) (Err row) is is' in absurd (cc never)
-  sees_one names text a b (unlawful {lines = others} {row} is' judged) (sees {lines} is lawful) =
+  sees_one names text a b (of_unlawful {lines = others} {row} is' judged) (of_lines {lines} is lawful) =
       absurd (never_unlawful lines row lawful (subst (λ ls. Judged ls (Unlawful row)) (sym (same_lines text lines others is is')) judged))
-  sees_one names text a b (unlawful {lines} {row} is judged) (unlawful {lines = others} {row = other} is' judged') =
+  sees_one names text a b (of_unlawful {lines} {row} is judged) (of_unlawful {lines = others} {row = other} is' judged') =
       let once =
       verdict_once (dependence_for work) work.faults lines (Unlawful row) (Unlawful other) judged
       (subst (λ ls. Judged ls (Unlawful other)) (sym (same_lines text lines others is is')) judged') in
       let same : row ≡ other = cc once in
       refused_at names row other same
-  sees_one names text a b (unlawful {lines} {row} is judged) (broken {row = other} is') =
+  sees_one names text a b (of_unlawful {lines} {row} is judged) (of_row {row = other} is') =
       let never = one_reading text (Ok lines) (Err other) is is' in absurd (cc never)
-  sees_one names text a b (broken {row} is) (sees {lines} is' lawful) =
+  sees_one names text a b (of_row {row} is) (of_lines {lines} is' lawful) =
       let never = one_reading text (Ok lines) (Err row) is' is in absurd (cc never)
-  sees_one names text a b (broken {row} is) (unlawful {lines} is' judged) =
+  sees_one names text a b (of_row {row} is) (of_unlawful {lines} is' judged) =
       let never = one_reading text (Ok lines) (Err row) is' is in absurd (cc never)
-  sees_one names text a b (broken {row} is) (broken {row = other} is') =
+  sees_one names text a b (of_row {row} is) (of_row {row = other} is') =
       let read = one_reading text (Err row) (Err other) is is' in
       let same : row ≡ other = cc read in
       refused_at names row other same
@@ -129,12 +131,14 @@ module _ (files : Files) (position : Option ℕ) (work : ToDo) where
       file_one file (Comes file position work) (sees_one file position work) names (bytes_of files file) a b is other
 
   -- what was read before the trace, and the trace, were read
-  trace_reads_all : (file : Name) (names : List Name) (case : Case Sight) → WithTrace (Some file) files position names work case → (name : Name)
+  trace_reads_all : (file : Name) (names : List Name) (case : Case Sight) → WithTrace (Some file) files position names work case
+      → (name : Name)
       → Contains (names ++ file ∷ []) name → Contains (names_read case) name
   trace_reads_all file names case is name has =
       file_reads file (Comes file position work) (sees_read file position work) names (bytes_of files file) case is name has
 
-  with_reads : (trace : Option Name) (names : List Name) (case : Case Sight) → WithTrace trace files position names work case → (name : Name)
+  with_reads : (trace : Option Name) (names : List Name) (case : Case Sight) → WithTrace trace files position names work case
+      → (name : Name)
       → Contains names name → Contains (names_read case) name
   with_reads None names case is name has = subst (λ c. Contains (names_read c) name) (sym is) has
   with_reads (Some file) names case is name has = trace_reads_all file names case is name (Contains-append_left names (file ∷ []) name has)
@@ -145,7 +149,8 @@ Next viewed files names work case = WithTrace viewed.trace files viewed.position
 pub view_case : HasOneCase asking
 view_case =
     has_one_case asking
-    (further_once GprsView (λ (v : Viewed). v.run) viewed_by Next (λ viewed files names work. with_some files viewed.position work viewed.trace names)
+    (further_once GprsView (λ (v : Viewed). v.run) viewed_by Next
+    (λ viewed files names work. with_some files viewed.position work viewed.trace names)
     (λ viewed files names work a b is other. with_one files viewed.position work viewed.trace names a b is other))
 
 module _ (viewed : Viewed) (files : Files) where
@@ -211,7 +216,8 @@ module _ (viewed : Viewed) where
       → IfSome files (λ told. IsCaseOf asking viewed told
       (Go names (record { work = work; position = viewed.position; trace = None })))
   run_viewed same None names work is = tt
-  run_viewed same (Some files) names work is = case_with viewed files None same names work (Go names (record { work = work; position = viewed.position; trace = None })) is refl
+  run_viewed same (Some files) names work is = case_with viewed files None same names work
+      (Go names (record { work = work; position = viewed.position; trace = None })) is refl
 
   module _ (file : Name) (same : viewed.trace ≡ Some file) (names : List Name) (work : ToDo) where
     pub lines_viewed : (files known : Option Files) (lines : List TraceLine) → known ≡ files

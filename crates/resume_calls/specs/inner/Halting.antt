@@ -6,7 +6,7 @@ use Rattle.gp_base.specs.declared.limits.Limits.{Limits}
 use Rattle.task_ast.specs.meaning.Tree.{Name, Program}
 use Rattle.gp_resume.specs.meaning.Reading.{LogAnswer, IsAnswer}
 use Rattle.command_line.specs.declared.resume_words.Resumed.{Resumed}
-use Rattle.call_cases.specs.meaning.Work.{ToDo, Case, Refused, Go}
+use Rattle.call_cases.specs.meaning.Work.{ToDo, Case}
 use Rattle.call_cases.specs.Decided.{IsSound, program_in, files_read, work_of}
 use Rattle.resume_calls.specs.declared.halted.Halted.{Halted}
 use Rattle.resume_calls.specs.meaning.Resumption.{Resumption, by_answer}
@@ -32,7 +32,8 @@ answer_for reader work bytes = reader.answer_of work.program work.inputs work.li
 -- its case, by what its log comes to
 abbrev pub case_of : Reader → Halted → Case Resumption
 case_of reader halted =
-    let work = work_of halted.request in by_answer halted.log (files_before halted ++ halted.log ∷ []) work (answer_for reader work halted.text)
+    let work = work_of halted.request in by_answer halted.log (files_before halted ++ halted.log ∷ []) work
+    (answer_for reader work halted.text)
 
 -- it may go on
 pub record MayGoOn (halted : Halted) : Type 0 where

@@ -1,5 +1,5 @@
 -- A law of runs that go on.
-use Rattle.std.specs.Prelude.{◌≡◌, ℕ, pos, List, ◌++◌, take}
+use Rattle.std.specs.Prelude.{◌≡◌, ℕ, pos, ◌++◌, take}
 use Rattle.retirement_log.specs.meaning.Log.{log}
 use Rattle.gp_resume.specs.meaning.Reading.{IsLogOf}
 use Rattle.gp_resume.specs.meaning.Resumed.{bytes_before}

@@ -27,11 +27,11 @@ pub record Sight : Type 0 where
 -- What comes of a trace with these bytes, where these files were read: the run with its lines, or the number of the first row that is no line, or with
 -- which they are not lawful.
 pub data Sees (file : Name) (names : List Name) (position : Option ℕ) (work : ToDo) (bytes : List ℕ) : Case Sight → Type 0 where
-  sees : {lines : List TraceLine} → IsTrace bytes lines → LawfulLines (dependence_for work) work.faults lines
+  of_lines : {lines : List TraceLine} → IsTrace bytes lines → LawfulLines (dependence_for work) work.faults lines
       → Sees file names position work bytes (Go names (record { work = work; position = position; trace = Some lines }))
-  unlawful : {lines : List TraceLine} {row : ℕ} → IsTrace bytes lines → IsVerdict (dependence_for work) work.faults lines (Unlawful row)
+  of_unlawful : {lines : List TraceLine} {row : ℕ} → IsTrace bytes lines → IsVerdict (dependence_for work) work.faults lines (Unlawful row)
       → Sees file names position work bytes (Refused 4 names (input_line file 1 row))
-  broken : {row : ℕ} → IsBrokenAt bytes row → Sees file names position work bytes (Refused 4 names (input_line file 1 row))
+  of_row : {row : ℕ} → IsBrokenAt bytes row → Sees file names position work bytes (Refused 4 names (input_line file 1 row))
 
 -- what comes of the trace that the words name, where they name one, after these files
 abbrev pub WithTrace : (trace : Option Name) → Files → (position : Option ℕ) → (names : List Name) → ToDo → Case Sight → Type 0
