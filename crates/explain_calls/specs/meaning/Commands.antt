@@ -1,5 +1,5 @@
 -- What the words of `explain` ask for, and its case.
-use Rattle.std.specs.Prelude.{ℕ, Bool, true, false, List, [], ◌∷◌, Option, Some, None, option_and_then, codes, if◌then◌else◌}
+use Rattle.std.specs.Prelude.{◌≡◌, ℕ, Bool, true, false, List, [], ◌∷◌, Option, Some, None, option_and_then, codes, if◌then◌else◌}
 use Rattle.std.specs.Str.{bytes_eq}
 use Rattle.command_line.specs.meaning.Words.{asked_of}
 use Rattle.command_line.specs.declared.asked.Asked.{Asked}
@@ -7,7 +7,7 @@ use Rattle.command_line.specs.declared.asked.Verb.TheVariants.{Run}
 use Rattle.call_cases.specs.meaning.Work.{ToDo, Case, Refused, Go}
 use Rattle.call_cases.specs.declared.lines.Tool.TheVariants.{GprsView}
 use Rattle.call_cases.specs.meaning.Commands.{Asking}
-use Rattle.call_cases.specs.meaning.RunCommands as gprs
+use Rattle.call_cases.specs.meaning.InputFiles.{supplied_by}
 use Rattle.call_cases.specs.meaning.RunCommands.{end_status}
 use Rattle.call_cases.specs.meaning.PlainText.{plain_ran}
 
@@ -24,9 +24,15 @@ is_explain (word ∷ words) = bytes_eq word (codes "explain")
 abbrev pub explained_by : List (List ℕ) → Option Asked
 explained_by words = if is_explain words then option_and_then without_trace (asked_of true Run words) else None
 
--- that of such a run, over the files of the shelf
 abbrev pub asking : Asking Asked ToDo
-asking = record gprs.asking { tool = GprsView; reading = explained_by; files = λ asked files. files }
+asking =
+    record {
+      tool = GprsView;
+      reading = explained_by;
+      program = λ asked. asked.program;
+      files = λ asked files. files;
+      supplies = λ asked program files case. case ≡ supplied_by asked program files;
+    }
 
 -- the status of a case: a run is made on one thread, so that faults strike nothing
 abbrev pub case_status : Case ToDo → ℕ
