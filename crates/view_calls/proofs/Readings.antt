@@ -66,7 +66,7 @@ module _ (names : List Name) (file : Name) (position : Option ℕ) (work : ToDo)
       → IsVerdict (dependence_for work) work.faults lines verdict → unlawful_in verdict ≡ Some row
       → IsInputRefused (input_line file 1 row) refusal → AnswersLines names file position work (Some text) (Err refusal)
   unlawful_told text lines verdict row refusal within is judged some refused =
-      told_row text row refusal (inr (within, of_unlawful is (unlawful_by (dependence_for work) work.faults lines verdict row judged some)))
+      told_row text row refusal (inr (within, of_unlawful row is (unlawful_by (dependence_for work) work.faults lines verdict row judged some)))
       refused
 
   pub row_told : (text : List ℕ) (row : ℕ) (refusal : Refusal) → length text ≤ MOST_FILE_BYTES → IsBrokenAt text row

@@ -47,12 +47,12 @@ module _ (file : Name) (position : Option ℕ) (work : ToDo) where
   sees_shift : (first : Name) (names : List Name) (text : List ℕ) (case : Case Sight) → Comes (first ∷ names) text case
       → (found : Case Sight) × Comes names text found × (case ≡ after_file first found)
   sees_shift first names text case (of_lines is lawful) = (_, of_lines is lawful, refl)
-  sees_shift first names text case (of_unlawful is judged) = (_, of_unlawful is judged, refl)
+  sees_shift first names text case (of_unlawful row is judged) = (_, of_unlawful row is judged, refl)
   sees_shift first names text case (of_row is) = (_, of_row is, refl)
 
   sees_read : (names : List Name) (text : List ℕ) (case : Case Sight) → Comes names text case → names_read case ≡ names
   sees_read names text case (of_lines is lawful) = refl
-  sees_read names text case (of_unlawful is judged) = refl
+  sees_read names text case (of_unlawful row is judged) = refl
   sees_read names text case (of_row is) = refl
 
   sees_some : (names : List Name) (text : List ℕ) → (case : Case Sight) × Comes names text case
@@ -61,7 +61,7 @@ module _ (file : Name) (position : Option ℕ) (work : ToDo) where
       by_verdict : (lines : List TraceLine) (verdict : Verdict) → IsTrace text lines → Judged lines verdict
           → (case : Case Sight) × Comes names text case
       by_verdict lines Lawful is judged = (_, of_lines is judged.0)
-      by_verdict lines (Unlawful number) is judged = (_, of_unlawful {row = number} is judged)
+      by_verdict lines (Unlawful number) is judged = (_, of_unlawful number is judged)
       by_verdict lines Incomplete is judged = (_, of_lines is judged.0)
 
       go : (result : Result (List TraceLine) ℕ) → Reads text result → (case : Case Sight) × Comes names text case
@@ -88,23 +88,23 @@ module _ (file : Name) (position : Option ℕ) (work : ToDo) where
   sees_one : (names : List Name) (text : List ℕ) (a b : Case Sight) → Comes names text a → Comes names text b → a ≡ b
   sees_one names text a b (of_lines {lines} is lawful) (of_lines {lines = others} is' lawful') =
       ap (λ ls. Go names (record { work = work; position = position; trace = Some ls })) (same_lines text lines others is is')
-  sees_one names text a b (of_lines {lines} is lawful) (of_unlawful {lines = others} {row} is' judged) =
+  sees_one names text a b (of_lines {lines} is lawful) (of_unlawful {lines = others} row is' judged) =
       absurd (never_unlawful lines row lawful (subst (λ ls. Judged ls (Unlawful row)) (sym (same_lines text lines others is is')) judged))
   sees_one names text a b (of_lines {lines} is lawful) (of_row {row} is') =
       let never = one_reading text (Ok lines) (Err row) is is' in absurd (cc never)
-  sees_one names text a b (of_unlawful {lines = others} {row} is' judged) (of_lines {lines} is lawful) =
+  sees_one names text a b (of_unlawful {lines = others} row is' judged) (of_lines {lines} is lawful) =
       absurd (never_unlawful lines row lawful (subst (λ ls. Judged ls (Unlawful row)) (sym (same_lines text lines others is is')) judged))
-  sees_one names text a b (of_unlawful {lines} {row} is judged) (of_unlawful {lines = others} {row = other} is' judged') =
+  sees_one names text a b (of_unlawful {lines} row is judged) (of_unlawful {lines = others} other is' judged') =
       let once =
       verdict_once (dependence_for work) work.faults lines (Unlawful row) (Unlawful other) judged
       (subst (λ ls. Judged ls (Unlawful other)) (sym (same_lines text lines others is is')) judged') in
       let same : row ≡ other = cc once in
       refused_at names row other same
-  sees_one names text a b (of_unlawful {lines} {row} is judged) (of_row {row = other} is') =
+  sees_one names text a b (of_unlawful {lines} row is judged) (of_row {row = other} is') =
       let never = one_reading text (Ok lines) (Err other) is is' in absurd (cc never)
   sees_one names text a b (of_row {row} is) (of_lines {lines} is' lawful) =
       let never = one_reading text (Ok lines) (Err row) is' is in absurd (cc never)
-  sees_one names text a b (of_row {row} is) (of_unlawful {lines} is' judged) =
+  sees_one names text a b (of_row {row} is) (of_unlawful {lines} other is' judged) =
       let never = one_reading text (Ok lines) (Err row) is' is in absurd (cc never)
   sees_one names text a b (of_row {row} is) (of_row {row = other} is') =
       let read = one_reading text (Err row) (Err other) is is' in

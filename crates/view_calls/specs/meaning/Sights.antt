@@ -29,7 +29,7 @@ pub record Sight : Type 0 where
 pub data Sees (file : Name) (names : List Name) (position : Option ℕ) (work : ToDo) (bytes : List ℕ) : Case Sight → Type 0 where
   of_lines : {lines : List TraceLine} → IsTrace bytes lines → LawfulLines (dependence_for work) work.faults lines
       → Sees file names position work bytes (Go names (record { work = work; position = position; trace = Some lines }))
-  of_unlawful : {lines : List TraceLine} {row : ℕ} → IsTrace bytes lines → IsVerdict (dependence_for work) work.faults lines (Unlawful row)
+  of_unlawful : {lines : List TraceLine} (row : ℕ) → IsTrace bytes lines → IsVerdict (dependence_for work) work.faults lines (Unlawful row)
       → Sees file names position work bytes (Refused 4 names (input_line file 1 row))
   of_row : {row : ℕ} → IsBrokenAt bytes row → Sees file names position work bytes (Refused 4 names (input_line file 1 row))
 
