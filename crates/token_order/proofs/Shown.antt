@@ -14,7 +14,7 @@ use Rattle.task_ast.specs.meaning.Table.{Stand, Away, Waits, Released, is_waitin
 use Rattle.task_ast.proofs.Counting.{count-cons}
 use Rattle.token_order.specs.declared.spans.Span.{Span}
 use Rattle.token_order.specs.Spans.{covers, shown_seat, shown_by, shown, no_span}
-use Rattle.token_order.specs.Turned.{goes_on, found_goes_on, is_let}
+use Rattle.token_order.specs.Turned.{goes_on, found_goes_on, is_let, unknown_of, needed_at}
 use Rattle.token_order.specs.View.{awaited}
 
 -- ---- the seats
@@ -253,3 +253,7 @@ pub none_ahead : (span : Span) (table : Table) → look table (ring table.token 
     → option_map (λ (x : ℕ × Next). x.0) (ahead (shown span table)) ≡ None
 none_ahead span table looks =
     ap (λ l. option_map (λ (x : ℕ × Next). x.0) (tries l (shown span table))) (ring-shown span table ∙ looks)
+
+-- the thread whose next synchronisation isn't known
+pub needed_shown : (span : Span) (table : Table) → needed_at (shown span table) ≡ needed_at table
+needed_shown span table = ap unknown_of (ring-shown span table)

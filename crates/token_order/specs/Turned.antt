@@ -14,6 +14,16 @@ abbrev pub settling_in : Again Table Turn → Option ℕ
 settling_in (Done (Issue t next child after)) = cond (is_settle next.sync) (Some t) None
 settling_in _ = None
 
+-- the thread that is found, where its next synchronisation isn't known
+abbrev pub unknown_of : Look → Option ℕ
+unknown_of (To t next) = None
+unknown_of (Unknown t) = Some t
+unknown_of NoThread = None
+
+-- the thread that the token comes to, where its next synchronisation isn't known: then a turn needs that
+abbrev pub needed_at : Table → Option ℕ
+needed_at table = unknown_of (look table (ring table.token (length table.seats)))
+
 -- the answer by the rules is this one, with this table after it; where no thread moves the table is as it was
 abbrev pub Answered : Again Table Turn → Table → TurnHere → Table → Type 0
 Answered answer before (here.Issue t next child) after = answer ≡ Done (Issue t next child after)

@@ -8,7 +8,7 @@ ghost use Rattle.task_ast.specs.meaning.Table.{owned_from};
 ghost use Rattle.task_ast.specs.meaning.Turn.{owners_after};
 ghost use Rattle.task_ast.specs.laws.Threads.{ahead};
 ghost use Rattle.token_order.specs.Spans.{Passes};
-ghost use Rattle.token_order.specs.Turned.{Turned, LeavesRoom, is_let, cleared_after};
+ghost use Rattle.token_order.specs.Turned.{Turned, LeavesRoom, is_let, cleared_after, needed_at};
 ghost use Rattle.token_order.specs.View.{awaited};
 
 use crate::held::Held;
@@ -111,6 +111,15 @@ impl Ring {
         ensures cleared { self.new.cleared ≡ true }
     {
         self.cleared = true;
+    }
+
+    /// The thread that the token comes to, where its next synchronisation is not known: then a turn needs that, and changes
+    /// nothing.
+    pub fn needs(&self) -> Option<ThreadNo>
+        ensures { result ≡ needed_at self.now.table }
+    {
+        let t = self.threads.needs()?;
+        Some(ThreadNo(t))
     }
 
     /// One turn: a pass, an issue, a settle that is not let, or what is needed for one, or the end. Takes no memory.

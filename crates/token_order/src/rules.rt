@@ -14,7 +14,7 @@ ghost use Rattle.task_ast.specs.meaning.Repeat.{More};
 ghost use Rattle.ended_seats.specs.Idle.{IdleOver, onward_after};
 ghost use Rattle.token_order.specs.View.{table, seat_of, onward_of, StandsInside, WalksStand};
 ghost use Rattle.token_order.specs.declared.rules.Turn.TheVariants as here;
-ghost use Rattle.token_order.specs.Turned.{Answered, is_let, goes_ahead};
+ghost use Rattle.token_order.specs.Turned.{Answered, is_let, goes_ahead, needed_at};
 
 use crate::threads::{Passed, Seat, Stand, Threads, has_ended, new_seat, unpass_all};
 use gp_base::limits::MOST_THREADS;
@@ -380,6 +380,21 @@ impl Threads {
             return None;
         }
         if next.sync.is_settle() { Some(t) } else { None }
+    }
+
+    /// The thread that the token comes to, where its next synchronisation is not known.
+    pub fn needs(&self) -> Option<u32>
+        requires inside { StandsInside self.now }
+        ensures { result ≡ needed_at (table self.now) }
+    {
+        let Some(t) = self.token_at() else {
+            return None;
+        };
+        if self.seats[t as usize].next.is_none() {
+            Some(t)
+        } else {
+            None
+        }
     }
 
     /// One turn, by its rules.

@@ -59,6 +59,13 @@ impl Span {
         (self.first <= t && t < self.past) || t < self.low
     }
 
+    // Whether no thread is one of these.
+    fn is_empty(self) -> bool
+        ensures { result ≡ true → (t : ℕ) → covers self t ≡ false }
+    {
+        self.past <= self.first && self.low == 0
+    }
+
     // These and those of a stretch, where none is one of them already, and two numbers and a third can tell them.
     fn with(self, from: usize, past: usize) -> Option<Span>
         ensures { IfSome result (Reaches self from past) }
@@ -192,6 +199,9 @@ impl Threads {
         requires inside { StandsInside self.now }
         ensures { result ≡ comes_round span (table self.now) }
     {
+        if span.is_empty() {
+            return false;
+        }
         let Some(t) = self.token_at() else {
             return false;
         };
