@@ -94,6 +94,13 @@ module _ (batch : Batch) (parts : Parts) (kept : Kept batch parts) where
   next-none from below is none q later near may =
       none q later (let low = in-window q may.by_locks.issued near in omega arith) (runs q may)
 
+  -- none was issued from the front on
+  pub none-past : (from : ℕ) → parts.issued ≤ from → NoneToPost (view_of batch parts) from
+  none-past from past q later near may =
+      let issued = may.by_locks.issued in
+      let are = kept.journal.issued_are in
+      omega arith
+
   -- the cells of the store are those of its state
   pub records-are : parts.store.cells
       ≡ map (cell_value (state_in (view_of batch parts))) (numbers 0 (cells_in (records_of (program_in batch).heads)))

@@ -14,10 +14,10 @@ use Rattle.task_ast.specs.declared.sync.SyncOp.TheVariants as sync
 use Rattle.task_ast.specs.declared.sync.Next.{Next}
 use Rattle.task_ast.specs.meaning.Control.{Point}
 use Rattle.task_ast.specs.meaning.Repeat.{Again, More, Done}
-use Rattle.task_ast.specs.meaning.Table.{is_settle}
+use Rattle.task_ast.specs.meaning.Table.{is_settle, ring}
 use Rattle.task_ast.specs.Table.{Table, next_of, last_in}
 use Rattle.task_ast.specs.meaning.Turn.{child_of}
-use Rattle.task_ast.specs.Turn.{Turn, Issue, Needs, Ended, turn}
+use Rattle.task_ast.specs.Turn.{Turn, Issue, Needs, Ended, Look, To, Unknown, NoThread, at_look, look, turn}
 use Rattle.task_ast.specs.laws.Threads.{SameThreads, HasBegun, with_child}
 use Rattle.task_ast.specs.laws.Standing.{Agrees, IsIssuedBy, TurnTells, passes, issues, needs, ends}
 use Rattle.task_ast.specs.meaning.Plain.{start_point, task_at, Subthread}
@@ -31,9 +31,19 @@ use Rattle.task_ast.proofs.IssuedTables.{get_push, get_last, get_past, length_pu
 use Rattle.dependence.specs.meaning.Restarts.{NoneDue}
 use Rattle.dependence.specs.meaning.Journal.{Stage, Allowed, MayFollow, WasTaken, happens}
 use Rattle.dependence.specs.Standing.{NamesIssued}
+use Rattle.token_order.specs.Turned.{unknown_of, needed_at}
 use Rattle.whole_run.specs.View.{Batch, program_in, run_in, dependence_in}
 use Rattle.whole_run.specs.inner.RingStands.{plain_before, point_before, IsLearnt, RingStands, StartIs, places_after}
-use Rattle.whole_run.proofs.Options.{some_none, some_same}
+use Rattle.whole_run.proofs.Options.{some_none, none_some, some_same}
+
+-- where the next synchronisation of the thread that the token comes to isn't known, a turn needs it
+pub turn_needs : (table : Table) (t : ℕ) → needed_at table ≡ Some t → turn table ≡ Done (Needs t)
+turn_needs table t e = go (look table (ring table.token (length table.seats))) e
+  where
+    go : (l : Look) → unknown_of l ≡ Some t → at_look l table ≡ Done (Needs t)
+    go (Unknown u) e = ap (λ v. Done (Needs v)) (some_same e)
+    go (To u next) e = absurd (none_some e)
+    go NoThread e = absurd (none_some e)
 
 module _ (batch : Batch) {Place : Type 0} (IsPlace : (thread : ℕ) → SyncOp → Place → Point → Type 0) (at : Stage) (table : Table)
     (places : List Place) (holds : RingStands batch IsPlace at table places) where

@@ -1,9 +1,10 @@
 -- What each call leaves of the run, and several calls one after another. A call leaves the run as it was, or makes one
 -- event, after which less is left. Calls are put together by what they leave: the run further on, a crew that is ready,
 -- the same work, and the posts of the run (Leaves); with these the next call begins.
-use Rattle.std.proofs.Common.{◌≡◌, inl, inr, ℕ, zero, suc, cond, length, slice_get, Contains, ◌<◌, ◌≤◌, Bool, true, false, List, [], ◌∷◌, ◌++◌, Option, Some, None, IsSome, is_some, refl, sym, ap, subst, ◌∙◌, arith, Result, Ok, Err, nat_eq}
+use Rattle.std.proofs.Common.{◌≡◌, inl, inr, ℕ, zero, suc, ◌+◌, min, cond, length, slice_get, Contains, ◌<◌, ◌≤◌, Bool, true, false, List, [], ◌∷◌, ◌++◌, Option, Some, None, IsSome, is_some, refl, sym, ap, subst, ◌∙◌, arith, Result, Ok, Err, nat_eq}
 use Rattle.std.specs.Option.{option_or, option_map_or}
 use Rattle.std.specs.Result.{OnOk, OnErr}
+use Rattle.std.proofs.Math.Nat.{min-le_left}
 use Rattle.std.proofs.lemmas.Bool.{cases_lt, false≢true}
 use Rattle.std.proofs.lemmas.List.Elements.{Contains-push, Contains-append_left}
 use Rattle.gp_base.specs.declared.ending.End.{End}
@@ -273,11 +274,19 @@ may-before before after p q did may = (
 abbrev pub NoneBefore : View → ℕ → Type 0
 NoneBefore view from = (q : ℕ) → q < from → ¬ MayPostNow view q
 
-pub none-yet : (before after : View) (from p : ℕ) → NoneBefore before from → IsNextToPost before from p
-    → Did before (event.Post p (present (now before) p)) after → NoneBefore after p
-none-yet before after from p none next did q l may =
+pub none-yet : (before after : View) (from p past : ℕ) → NoneBefore before from → IsNextToPost before from p
+    → Did before (event.Post p (present (now before) p)) after → past ≤ p + 1 → NoneBefore after past
+none-yet before after from p past none next did within q l may =
     let h = may-before before after p q did may in
-    elim (cases_lt q from) [ inl old ↦ none q old h.0 | inr young ↦ next.first q young l h.0 ]
+    elim (cases_lt q from) [
+      | inl old ↦ none q old h.0
+      | inr young ↦ elim (cases_lt q p) [ inl less ↦ next.first q young less h.0 | inr not_less ↦ h.1 (omega arith) ]
+    ]
+
+-- the next number, as far as there is one
+pub one-past : (n p past : ℕ) → n ≡ p → past ≡ min (n + 1) 4294967295 → past ≤ p + 1
+one-past n p past same is =
+    subst (λ m. past ≤ m + 1) same (subst (λ m. m ≤ n + 1) (sym is) (min-le_left (n + 1) 4294967295))
 
 pub none-at_all : (view : View) (from : ℕ) → NoneBefore view from → NoneToPost view from → NoneToPost view 0
 none-at_all view from none rest q l near may = elim (cases_lt q from) [ inl old ↦ none q old may | inr young ↦ rest q young near may ]

@@ -59,7 +59,7 @@ fn post_all<R: Threads + Sync, E: Calls, C: Crew>(
     let mut from = Pos(0);
     'posting: while let Some(position) = engine.runnable(from) {
         engine.post(rt, crew, position)?;
-        from = position;
+        from = Pos(position.0.saturating_add(1));
     }
     Ok(())
 }

@@ -52,6 +52,9 @@ pub fn runnable(plan: &Plan, parts: &mut Parts, from: Pos) -> Option<Pos>
     ensures found { IfSome result (IsNextToPost (view_of (batch_in plan.now) parts.old) from) }
     ensures none { IfNone result (NoneToPost (view_of (batch_in plan.now) parts.old) from) }
 {
+    if parts.issued <= from.0 {
+        return None;
+    }
     let below = window_end(plan.recovery, &parts.backup);
     let position = parts.rol.next_runnable(from, below)?;
     is_open(plan.recovery, &parts.backup, position).then_some(position)

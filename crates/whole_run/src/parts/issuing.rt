@@ -1,6 +1,6 @@
 // Issuing the next subthread.
 
-ghost use Rattle.std.specs.Prelude.{◌≡◌, ◌<◌, ◌≤◌, ◌+◌, ◌^◌, true, false, length, IfOk, OnOk, OnErr};
+ghost use Rattle.std.specs.Prelude.{◌≡◌, ◌<◌, ◌≤◌, ◌+◌, ◌^◌, true, false, length, IfSome, IfOk, OnOk, OnErr};
 ghost use Rattle.gp_base.specs.declared.limits.TheConstants.{MOST_THREADS};
 ghost use Rattle.dependence.specs.meaning.Restarts.{NoneDue};
 ghost use Rattle.task_ast.specs.SyncOps.{IsNumbered};
@@ -326,6 +326,15 @@ fn pass_waiting(_plan: &Plan, parts: &mut Parts)
     parts.ring.pass_waiting();
 }
 
+// The thread that the token comes to, where its next synchronisation is needed first.
+fn needed(_plan: &Plan, parts: &Parts) -> Option<Issued>
+    requires kept { Kept (batch_in _plan.now) parts.now }
+    ensures { IfSome result (IssueGives (view_of (batch_in _plan.now) parts.now) (view_of (batch_in _plan.now) parts.now)) }
+{
+    let thread = parts.ring.needs()?;
+    Some(Issued::Needs(thread))
+}
+
 /// Issues the next subthread, or answers which thread's next synchronisation is needed first, or how the run ends.
 pub fn issue(alloc: Global, plan: &Plan, parts: &mut Parts) -> Result<Issued, AllocError>
     requires kept { Kept (batch_in plan.now) parts.old }
@@ -338,6 +347,9 @@ pub fn issue(alloc: Global, plan: &Plan, parts: &mut Parts) -> Result<Issued, Al
 {
     'turning: loop {
         pass_waiting(plan, parts);
+        if let Some(needs) = needed(plan, parts) {
+            return Ok(needs);
+        }
         let prepared = make_ready(alloc, plan, parts)?;
         if let Some(issued) = turn(alloc, plan, parts, prepared) {
             return Ok(issued);

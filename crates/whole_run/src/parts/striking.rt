@@ -177,6 +177,9 @@ impl FaultsInOrder {
         requires { IsInRow rol.now.entries }
         ensures { result ≡ least_struck (strikes any rol.now.entries front) self.now.list }
     {
+        if self.len() == 0 {
+            return None;
+        }
         let Some(first) = oldest(rol) else {
             return None;
         };

@@ -10,7 +10,7 @@ use Rattle.whole_run.proofs.Events.{did-leaves, did-onward, now-did}
 use Rattle.whole_run.specs.Notes.{KeepsLeftBy}
 use Rattle.whole_run.proofs.Crews.{crew-posted}
 use Rattle.whole_run.proofs.Noting.{keeps-left-same, keeps-left-then, did-keeps-left}
-use Rattle.whole_run.proofs.Turns.{leaves-still, leaves-on, leaves-same, none-yet, none-at_all, retired-same, struck-kept}
+use Rattle.whole_run.proofs.Turns.{leaves-still, leaves-on, leaves-same, none-yet, one-past, none-at_all, retired-same, struck-kept}
 use Rattle.whole_run.proofs.rounds.post_all.Goals as goal
 use Rattle.whole_run.proofs.rounds.post_all.Goals.{After-runnable}
 
@@ -94,8 +94,9 @@ posting-preserved g c =
           ∙ (retired-same (view c.posting.engine) before c.runnable.ensures.same ∙ held.retired);
       struck = struck-kept before (view c.post.new.self) e made.did refl refl ∙ (ap struck_now c.runnable.ensures.same ∙ held.struck);
       none =
-          none-yet before (view c.post.new.self) c.posting.from p (rw c.runnable.ensures.same held.none)
-          (rw c.runnable.ensures.same c.in-Some.ensures.found) made.did;
+          none-yet before (view c.post.new.self) c.posting.from p _ (rw c.runnable.ensures.same held.none)
+          (rw c.runnable.ensures.same c.in-Some.ensures.found) made.did
+          (one-past c.position.inside.0 p c.saturating_add.result c.position.view_is c.saturating_add.ensures);
       left =
           keeps-left-then (view c.args.engine.now) before (view c.post.new.self)
           (seen g (goal.at.posting-preserved g c).After-runnable)

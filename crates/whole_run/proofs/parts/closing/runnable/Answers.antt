@@ -1,9 +1,9 @@
-use Rattle.std.proofs.Common.{◌≡◌, ℕ, Bool, true, false, Option, Some, None, IfSome, refl, sym, subst, ◌∙◌}
+use Rattle.std.proofs.Common.{◌≡◌, ℕ, Bool, true, false, Option, Some, None, IfSome, refl, sym, subst, ◌∙◌, arith}
 use Rattle.std.specs.Bool.{then_some}
 use Rattle.std.specs.Option.{IfNone}
 use Rattle.whole_run.specs.Gives.{IsNextToPost, NoneToPost}
 use Rattle.whole_run.specs.inner.Kept.{batch_in, view_of}
-use Rattle.whole_run.proofs.Closed.{next-found, next-closed, next-none}
+use Rattle.whole_run.proofs.Closed.{next-found, next-closed, next-none, none-past}
 use Rattle.whole_run.proofs.parts.closing.runnable.Goals as goal
 
 -- what holds of a value where a test holds, and what holds where it fails
@@ -18,6 +18,9 @@ none-where P false p h = h refl
 none-anyway : (P : Type 0) (o : Option ℕ) → P → IfNone o P
 none-anyway P None h = h
 none-anyway P (Some p) h = tt
+
+pub returns-then-parts-from-clause-none : goal.returns-then-parts-from-clause-none
+returns-then-parts-from-clause-none c = none-past (batch_in c.args.plan.now) c.args.parts.now c.requires.kept c.args.from (omega arith)
 
 pub returns-in_err-position-clause-none : goal.returns-in_err-position-clause-none
 returns-in_err-position-clause-none c =

@@ -1,6 +1,7 @@
-use Rattle.std.proofs.Common.{◌≡◌, ◌∙◌, ◌<◌, [], All, MatchOption, sym, subst}
+use Rattle.std.proofs.Common.{◌≡◌, ◌∙◌, ◌<◌, Bool, List, [], ◌∷◌, length, None, All, MatchOption, refl, sym, subst, arith}
 use Rattle.std.specs.List.{AllWithin}
 use Rattle.std.specs.List.Sorted.{IsNonDecreasingBy}
+use Rattle.gp_base.specs.declared.fault.Fault.{Fault}
 use Rattle.gp_base.specs.declared.fault.Faults.{Faults}
 use Rattle.gp_base.specs.Faults.{IsInRange}
 use Rattle.dependence.specs.meaning.Restarts.{least_struck}
@@ -8,6 +9,15 @@ use Rattle.reorder_list.specs.Entries.{first_position}
 use Rattle.whole_run.specs.inner.Striking.{strikes, rank, key_of, IsLeastOf}
 use Rattle.whole_run.proofs.InOrder.{Misses, in-range, none-empty, none-before, least-moved, least-is}
 use Rattle.whole_run.proofs.parts.striking.FaultsInOrder.least_struck.Goals as goal
+
+-- no fault strikes where there is none
+none-there : (test : Fault → Bool) (faults : List Fault) → length faults ≡ 0 → None ≡ least_struck test faults
+none-there test [] none = refl
+none-there test (fault ∷ rest) none = absurd (omega (arith, none))
+
+pub returns-then-len-eq0 : goal.returns-then-len-eq0
+returns-then-len-eq0 c =
+    none-there (strikes c.args.any c.args.rol.now.entries c.args.front) c.args.self.now.list (sym c.len.ensures ∙ c.if-len-eq0.true)
 
 pub returns-in_default : goal.returns-in_default
 returns-in_default c =
