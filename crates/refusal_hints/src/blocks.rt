@@ -1,8 +1,10 @@
 // Which blocks are open at a token.
 
-use crate::pieces::{push_between, push_number, push_words};
+use crate::pieces::{comma, push_between};
 use std::alloc::{AllocError, Global};
 use task_parser::{Kind, Token};
+use text_pieces::Piece::{Number, Word};
+use text_pieces::push_pieces;
 use text_places::{bytes_of, line_before};
 
 const OPEN: Kind = Kind::Mark(4);
@@ -66,13 +68,24 @@ fn closing_of(tokens: &[Token], open: usize, close: usize) -> Option<Closing> {
 
 // Appends which block a `}` closes.
 fn push_closing(text: &mut Vec<u8>, closing: Closing) -> Result<(), AllocError> {
-    push_between(
+    push_pieces(
         text,
-        b"hint: the `}` in line ",
-        u64::from(closing.closed),
-        b" closes the block that begins in line ",
-    )?;
-    push_between(text, b"", u64::from(closing.opened), b"\n")
+        &[
+            Word(b"hint: the `}` in line "),
+            Number(u64::from(closing.closed)),
+            Word(b" closes the block that begins in line "),
+            Number(u64::from(closing.opened)),
+            Word(b"\n"),
+        ],
+    )
+}
+
+// Appends which block the first `}` closes that stands in another column, if there is one.
+fn push_moved(text: &mut Vec<u8>, closed: Closed) -> Result<(), AllocError> {
+    match closed.moved {
+        Some(closing) => push_closing(text, closing),
+        None => Ok(()),
+    }
 }
 
 impl<'a> Place<'a> {
@@ -194,11 +207,8 @@ impl<'a> Place<'a> {
 
     // Appends the line of a token, with a comma before it where it is not the first.
     fn push_line(&self, text: &mut Vec<u8>, at: usize, number: usize) -> Result<(), AllocError> {
-        if at > 0 {
-            text.extend_from_slice(b", ")?;
-        }
         match self.tokens.get(number) {
-            Some(token) => push_number(text, u64::from(token.line)),
+            Some(token) => push_between(text, comma(at), u64::from(token.line), b""),
             None => Ok(()),
         }
     }
@@ -223,13 +233,16 @@ impl<'a> Place<'a> {
         if !matches!(head.kind, Kind::Word(9 | 10 | 11 | 18)) {
             return Ok(());
         }
-        push_words(
+        push_pieces(
             text,
-            b"hint: a `}` may be missing: the block of the `",
-            bytes_of(self.program, head),
-            b"` in line ",
-        )?;
-        push_between(text, b"", u64::from(head.line), b" is open\n")
+            &[
+                Word(b"hint: a `}` may be missing: the block of the `"),
+                Word(bytes_of(self.program, head)),
+                Word(b"` in line "),
+                Number(u64::from(head.line)),
+                Word(b" is open\n"),
+            ],
+        )
     }
 
     /// Appends the hints where a text ends in a block, a task begins in one, or a `}` stands where no block is open: which
@@ -249,22 +262,27 @@ impl<'a> Place<'a> {
         open: &[usize],
         closed: Closed,
     ) -> Result<(), AllocError> {
-        let closes = self.closes();
-        if closes && !open.is_empty() {
+        if open.is_empty() {
+            return self.push_none_open(text, closed);
+        }
+        if self.closes() {
             return Ok(());
         }
-        if !open.is_empty() {
-            self.push_open(text, open)?;
-        } else if closes {
+        self.push_open(text, open)?;
+        push_moved(text, closed)?;
+        if self.is_inner_task() {
+            text.extend_from_slice(b"hint: no task stands inside of another\n")
+        } else {
+            Ok(())
+        }
+    }
+
+    // Appends those hints, where no block is open.
+    fn push_none_open(&self, text: &mut Vec<u8>, closed: Closed) -> Result<(), AllocError> {
+        if self.closes() {
             text.extend_from_slice(b"hint: no block is open here\n")?;
         }
-        if let Some(closing) = closed.moved {
-            push_closing(text, closing)?;
-        }
-        if self.is_inner_task() && !open.is_empty() {
-            text.extend_from_slice(b"hint: no task stands inside of another\n")?;
-        }
-        Ok(())
+        push_moved(text, closed)
     }
 
     // Whether a task begins here that is indented.

@@ -2,11 +2,15 @@
 
 use crate::foreign::{function, without_parentheses};
 use crate::mark_hints::ONE_INDEX;
-use crate::spots::{
-    ASSIGN, CLOSE_BRACKET, COMMA, OPEN_BRACKET, OPEN_PAREN, READ, SEMICOLON, Spot, WRITE,
-    is_arithmetic,
+use crate::rules::Rule;
+use crate::rules::Test::{
+    Before, FeedBefore, FeedCell, Fourth, Has, InHead, Index, Is, This, Wants,
 };
-use crate::told_hints::{Hint, Told, told_of};
+use crate::spots::{
+    ASSIGN, CLOSE_BRACKET, COMMA, MINUS, NOT, OPEN_BRACKET, OPEN_PAREN, PERCENT, PLUS, READ, ROWS,
+    SELF, SEMICOLON, SLASH, STAR, Spot, WRITE,
+};
+use crate::told_hints::Hint;
 use task_parser::Kind;
 
 const INDEX: &[u8] = b"an index here is a number or a control variable: `k = i + 1; lock l[k];`";
@@ -19,106 +23,73 @@ pub const BRACKETS: &[u8] = b"a size and an index stand between `[` and `]`";
 /// What is told of a size that is no number.
 pub const SIZE: &[u8] = b"a size stands as a number in the text";
 
-// What is told of a cell of a feed in these statements.
-static OF_FEED: [Told; 2] = [
+// Tokens by which an expression or a cell goes on.
+const GOING_ON: &[Kind] = &[PLUS, MINUS, STAR, SLASH, PERCENT, OPEN_BRACKET, OPEN_PAREN];
+
+/// The rules on a cell of a feed in a `read` or a `write`, and on what is no index of a lock or of a record.
+pub static INDEX_RULES: [Rule; 6] = [
     (
-        READ,
+        &[Wants(CLOSE_BRACKET), FeedCell, Fourth(&[READ])],
         b"a cell of a feed stands in an expression: `$x = f[i, 0];`",
     ),
-    (WRITE, ONLY_READ),
+    (
+        &[Wants(CLOSE_BRACKET), FeedCell, Fourth(&[WRITE])],
+        ONLY_READ,
+    ),
+    (
+        &[Index, Is(Kind::Reg)],
+        b"an index here is control: `settle $x into c;` makes it that; `when $x == 0 { .. }` goes by data among cells that are named",
+    ),
+    (&[Index, This(&[NOT, SELF, ROWS, OPEN_PAREN, MINUS])], INDEX),
+    (&[Wants(CLOSE_BRACKET), This(GOING_ON), InHead], SIZE),
+    (&[Wants(CLOSE_BRACKET), This(GOING_ON)], INDEX),
 ];
 
-// What is told of a token that begins no index.
-fn no_index(kind: Kind) -> Option<&'static [u8]> {
-    match kind {
-        Kind::Reg => Some(
-            b"an index here is control: `settle $x into c;` makes it that; `when $x == 0 { .. }` goes by data among cells that are named",
-        ),
-        Kind::Word(21..=23) | Kind::Mark(2 | 16) => Some(INDEX),
-        _ => None,
-    }
-}
-
-// Whether an expression or a cell goes on with this token.
-fn goes_on(kind: Kind) -> bool {
-    is_arithmetic(kind) || kind == OPEN_BRACKET || kind == OPEN_PAREN
-}
+// The rules on a bracket or a parenthesis that can't stand.
+static BRACKET_RULES: [Rule; 6] = [
+    (
+        &[Is(CLOSE_BRACKET), Has(COMMA)],
+        b"a cell of a record is read by `read r[i] into $x;`; one of a feed has a row and a field, as `f[i, 0]`",
+    ),
+    (&[Is(OPEN_BRACKET), Wants(ASSIGN), FeedBefore], ONLY_READ),
+    (
+        &[Is(OPEN_BRACKET), Wants(ASSIGN)],
+        b"a cell of a record is written by `write r[i] = e;`",
+    ),
+    (&[Is(OPEN_BRACKET), Before(&[CLOSE_BRACKET])], ONE_INDEX),
+    (&[Is(OPEN_BRACKET), Wants(SEMICOLON)], b"write `barrier b;`"),
+    (
+        &[Is(OPEN_PAREN), Before(&[Kind::Name]), Wants(OPEN_BRACKET)],
+        BRACKETS,
+    ),
+];
 
 impl<'a> Spot<'a> {
-    /// A cell of a feed in a `read` or a `write`.
-    pub fn feed_hint(&self) -> Option<&'static [u8]> {
-        if !self.wants(CLOSE_BRACKET) || !self.is_feed(self.bytes(self.back(3))) {
-            return None;
-        }
-        told_of(&OF_FEED, self.back(4)?.kind)
-    }
-
-    /// What is no index of a lock or of a record.
-    pub fn index_hint(&self) -> Option<&'static [u8]> {
-        let kind = self.kind()?;
-        if self.wants_index() {
-            no_index(kind)
-        } else if !self.wants(CLOSE_BRACKET) || !goes_on(kind) {
-            None
-        } else if self.is_after_task() {
-            Some(INDEX)
-        } else {
-            Some(SIZE)
-        }
-    }
-
     /// A bracket or a parenthesis that can't stand.
     pub fn bracket_hint(&self) -> Option<Hint<'a>> {
-        let kind = self.kind()?;
-        if kind == OPEN_PAREN {
-            self.paren_hint()
-        } else if kind == CLOSE_BRACKET && self.has(COMMA) {
-            Some(Hint::Fixed(
-                b"a cell of a record is read by `read r[i] into $x;`; one of a feed has a row and a field, as `f[i, 0]`",
-            ))
-        } else if kind == OPEN_BRACKET && self.wants(ASSIGN) {
-            Some(Hint::Fixed(self.set_hint()))
-        } else if kind == OPEN_BRACKET && self.follows(CLOSE_BRACKET) {
-            Some(Hint::Fixed(ONE_INDEX))
-        } else if kind == OPEN_BRACKET && self.wants(SEMICOLON) {
-            Some(Hint::Fixed(b"write `barrier b;`"))
-        } else {
-            None
+        if let Some(told) = self.told(&BRACKET_RULES) {
+            return Some(Hint::Fixed(told));
         }
-    }
-
-    // A cell that stands where a variable is set.
-    fn set_hint(&self) -> &'static [u8] {
-        if self.is_feed(self.bytes(self.back(1))) {
-            ONLY_READ
-        } else {
-            b"a cell of a record is written by `write r[i] = e;`"
-        }
-    }
-
-    // A `(` that can't stand.
-    fn paren_hint(&self) -> Option<Hint<'a>> {
         let before = self.bytes(self.back(1));
+        if !self.is(OPEN_PAREN) {
+            None
+        } else if self.follows(Kind::Name) && self.has(OPEN_BRACKET) && self.is_feed(before) {
+            Some(Hint::Cell(before))
+        } else {
+            Some(Hint::Fixed(self.paren_hint(before)?))
+        }
+    }
+
+    // A `(` that can't stand: after the word of a statement, at the end of a statement, or after a name.
+    fn paren_hint(&self, before: &[u8]) -> Option<&'static [u8]> {
         if self.follows_word() {
-            return Some(Hint::Fixed(without_parentheses(before)?));
-        }
-        if !self.follows(Kind::Name) {
-            return None;
-        }
-        if self.wants(SEMICOLON) {
-            return Some(Hint::Fixed(without_parentheses(self.bytes(self.first()))?));
-        }
-        if self.wants(OPEN_BRACKET) {
-            return Some(Hint::Fixed(BRACKETS));
-        }
-        if self.has(OPEN_BRACKET) && self.is_feed(before) {
-            return Some(Hint::Cell(before));
-        }
-        match function(before) {
-            Some(hint) => Some(Hint::Fixed(hint)),
-            None => Some(Hint::Fixed(
-                b"there are no functions; a task is called by `fork f(3) into h; join h into $x;`",
-            )),
+            without_parentheses(before)
+        } else if !self.follows(Kind::Name) {
+            None
+        } else if self.wants(SEMICOLON) {
+            without_parentheses(self.bytes(self.first()))
+        } else {
+            Some(function(before))
         }
     }
 }

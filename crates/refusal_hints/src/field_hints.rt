@@ -116,6 +116,11 @@ fn parts(field: &[u8], mark: u8) -> usize {
     if inside { count } else { 0 }
 }
 
+// Whether so many digits may stand before a mark, after so many others.
+fn is_group(groups: usize, length: usize) -> bool {
+    length == 3 || groups == 0 && (length == 1 || length == 2)
+}
+
 // Whether three digits stand after each mark, and up to three before the first.
 fn is_grouped(field: &[u8], mark: u8) -> bool {
     let mut groups: usize = 0;
@@ -123,7 +128,7 @@ fn is_grouped(field: &[u8], mark: u8) -> bool {
     for byte in field {
         if byte.is_ascii_digit() {
             length = length.saturating_add(1);
-        } else if *byte != mark || length == 0 || length > 3 || groups > 0 && length < 3 {
+        } else if *byte != mark || !is_group(groups, length) {
             return false;
         } else {
             groups = groups.saturating_add(1);
@@ -189,9 +194,11 @@ static SIGNS: [&[u8]; 11] = [
 // Whether a currency stands before or after a number.
 fn has_currency(field: &[u8]) -> bool {
     let digits = unsigned(field);
+    if !has_digit(digits) {
+        return false;
+    }
     for sign in &SIGNS {
-        let stands = digits.starts_with(sign) || digits.ends_with(sign);
-        if stands && has_digit(digits) {
+        if digits.starts_with(sign) || digits.ends_with(sign) {
             return true;
         }
     }
@@ -211,22 +218,42 @@ fn has_plus(field: &[u8]) -> bool {
     }
 }
 
-// What is told of quotes and of marks around a number.
+// What stands before and after a number, and what is told of it.
+static AROUND: [(&[u8], &[u8], &[u8]); 5] = [
+    (
+        b"(",
+        b")",
+        b"an amount below 0 has a `-` before it, and no parentheses",
+    ),
+    (b"", b"-", b"a `-` stands before its number"),
+    (
+        b"",
+        b"%",
+        b"a percent sign has to go: rates in whole numbers of a smaller unit",
+    ),
+    (b"0x", b"", b"numbers are decimal"),
+    (b"0X", b"", b"numbers are decimal"),
+];
+
+// Whether a field begins and ends so.
+fn is_between(field: &[u8], front: &[u8], end: &[u8]) -> bool {
+    field.starts_with(front) && field.ends_with(end)
+}
+
+// What is told of marks around a number.
 fn around_hint(field: &[u8]) -> Option<&'static [u8]> {
-    let has_digit = has_digit(field);
     if has_plus(field) {
-        Some(b"a plus sign has to go")
-    } else if has_digit && field.starts_with(b"(") && field.ends_with(b")") {
-        Some(b"an amount below 0 has a `-` before it, and no parentheses")
-    } else if has_digit && field.ends_with(b"-") {
-        Some(b"a `-` stands before its number")
-    } else if has_digit && field.ends_with(b"%") {
-        Some(b"a percent sign has to go: rates in whole numbers of a smaller unit")
-    } else if field.starts_with(b"0x") || field.starts_with(b"0X") {
-        Some(b"numbers are decimal")
-    } else {
-        None
+        return Some(b"a plus sign has to go");
     }
+    if !has_digit(field) {
+        return None;
+    }
+    for (front, end, told) in &AROUND {
+        if is_between(field, front, end) {
+            return Some(told);
+        }
+    }
+    None
 }
 
 // What is told of quotes in a field.
@@ -240,16 +267,20 @@ fn quote_hint(field: &[u8]) -> Option<&'static [u8]> {
     }
 }
 
+// Whether a field is a time.
+fn is_time(field: &[u8]) -> bool {
+    has_byte(field, b':') && has_digit(field) && !has_letter(field)
+}
+
 // What is told of the digits and marks of a number.
-fn amount_hint(field: &[u8]) -> Option<&'static [u8]> {
-    let digits = unsigned(field);
+fn amount_hint(digits: &[u8]) -> Option<&'static [u8]> {
     if is_thousands(digits) {
         Some(GROUPED)
     } else if is_grouped(digits, b'.') {
         Some(b"where the point stands between thousands it has to go; amounts in cents")
     } else if is_date(digits) {
         Some(DATE)
-    } else if has_byte(digits, b':') && has_digit(digits) && !has_letter(digits) {
+    } else if is_time(digits) {
         Some(b"a time is written as one number, as 630 minutes for 10:30")
     } else if is_amount(digits) {
         Some(CENTS)
@@ -260,20 +291,28 @@ fn amount_hint(field: &[u8]) -> Option<&'static [u8]> {
     }
 }
 
+// What is told of a number with something beside its digits.
+fn number_hint(field: &[u8]) -> Option<&'static [u8]> {
+    if has_currency(field) {
+        return Some(CURRENCY);
+    }
+    match around_hint(field) {
+        Some(told) => Some(told),
+        None => amount_hint(unsigned(field)),
+    }
+}
+
 /// What is told of a field that is no whole number.
 pub fn field_hint(field: &[u8]) -> Option<&'static [u8]> {
     let inner = trimmed(field);
     if inner.is_empty() {
-        Some(BLANK)
-    } else if is_whole(inner) {
-        Some(b"blanks beside a number have to go")
-    } else if quote_hint(inner).is_some() {
-        quote_hint(inner)
-    } else if has_currency(inner) {
-        Some(CURRENCY)
-    } else if around_hint(inner).is_some() {
-        around_hint(inner)
-    } else {
-        amount_hint(inner)
+        return Some(BLANK);
+    }
+    if is_whole(inner) {
+        return Some(b"blanks beside a number have to go");
+    }
+    match quote_hint(inner) {
+        Some(told) => Some(told),
+        None => number_hint(inner),
     }
 }

@@ -233,9 +233,12 @@ pub fn beginning(word: &[u8]) -> Option<&'static [u8]> {
     told_in(&BEGINNINGS, word)
 }
 
-/// What is written in place of a head that begins with this word.
+/// What is written in place of a head that begins with this word, or else of a statement.
 pub fn head(word: &[u8]) -> Option<&'static [u8]> {
-    told_in(&HEADS, word)
+    match told_in(&HEADS, word) {
+        Some(told) => Some(told),
+        None => beginning(word),
+    }
 }
 
 /// What is written in place of this word where an operator or the end of an expression could stand.
@@ -244,8 +247,11 @@ pub fn operator(word: &[u8]) -> Option<&'static [u8]> {
 }
 
 /// What is written in place of a function of this name.
-pub fn function(word: &[u8]) -> Option<&'static [u8]> {
-    told_in(&FUNCTIONS, word)
+pub fn function(word: &[u8]) -> &'static [u8] {
+    match told_in(&FUNCTIONS, word) {
+        Some(told) => told,
+        None => b"there are no functions; a task is called by `fork f(3) into h; join h into $x;`",
+    }
 }
 
 const NO_VALUE: &[u8] =
@@ -284,17 +290,4 @@ static STATEMENTS: [Row; 7] = [
 /// What is written in place of the form that the word of a statement has with parentheses in other languages.
 pub fn without_parentheses(word: &[u8]) -> Option<&'static [u8]> {
     told_in(&STATEMENTS, word)
-}
-
-// Words of statements that give a value.
-static GIVING: [Row; 4] = [
-    (b"read", b"write `read r[i] into $x;`"),
-    (b"fork", b"write `fork t(e) into h;`"),
-    (b"join", b"write `join h into $x;`"),
-    (b"settle", b"write `settle $x into c;`"),
-];
-
-/// How a statement is written that gives a value, and stands where an expression is expected.
-pub fn giving(word: &[u8]) -> Option<&'static [u8]> {
-    told_in(&GIVING, word)
 }

@@ -4,22 +4,29 @@ ghost use Rattle.std.specs.Prelude.{◌≤◌, length};
 use crate::counts::{push_lock_head, push_main_starts, push_takes};
 use crate::data_names::names_data;
 use crate::lock_hints::push_lock_hints;
-use crate::pieces::push_words;
-use crate::spelling::push_name;
+use crate::spelling::dollar;
 use crate::unknown_hints::{push_no_array, push_no_main, push_unknown};
 use gp_base::Name;
 use rule_blame::{Blame, Role, Told};
 use std::alloc::AllocError;
 use task_ast::{CheckKind, Head, Param, Program, TaskText, What};
+use text_pieces::Piece::Word;
+use text_pieces::push_pieces;
 
 /// What is told where a comment of another language begins.
 pub const COMMENT: &[u8] = b"a comment begins with `#`";
 
 /// Appends a line that tells a name which is declared.
 pub fn push_declared(text: &mut Vec<u8>, role: Role, name: &Name) -> Result<(), AllocError> {
-    text.extend_from_slice(b"hint: ")?;
-    push_name(text, role, name)?;
-    text.extend_from_slice(b" is declared\n")
+    push_pieces(
+        text,
+        &[
+            Word(b"hint: "),
+            Word(dollar(role)),
+            Word(name.as_slice()),
+            Word(b" is declared\n"),
+        ],
+    )
 }
 
 // How many bytes two names have alike from the front.
@@ -71,6 +78,16 @@ pub fn name_of(head: &Head) -> &Name {
         | Head::RecHead { name, .. }
         | Head::FeedHead { name, .. } => name,
     }
+}
+
+/// The first head of a name.
+pub fn head_named<'a>(heads: &'a [Head], name: &Name) -> Option<&'a Head> {
+    for head in heads {
+        if name_of(head).as_slice() == name.as_slice() {
+            return Some(head);
+        }
+    }
+    None
 }
 
 // What a head declares.
@@ -170,13 +187,15 @@ fn other_way(told: &Told<'_>, name: &Name) -> &'static [u8] {
 
 // Appends how data may decide: by a `when`, where it stands in the condition of an `if`, and by a settle.
 fn push_ways(text: &mut Vec<u8>, told: &Told<'_>, name: &Name) -> Result<(), AllocError> {
-    text.extend_from_slice(b"hint: ")?;
-    text.extend_from_slice(other_way(told, name))?;
-    push_words(
+    push_pieces(
         text,
-        b"`settle $",
-        name.as_slice(),
-        b" into c;` makes it a control value\n",
+        &[
+            Word(b"hint: "),
+            Word(other_way(told, name)),
+            Word(b"`settle $"),
+            Word(name.as_slice()),
+            Word(b" into c;` makes it a control value\n"),
+        ],
     )
 }
 

@@ -1,78 +1,70 @@
 // What could stand at a place, in words.
 
-use crate::spelling::push_kind;
+use crate::spelling::{mark_text, word_text};
+use crate::spots::{
+    AND, AT_LEAST, AT_MOST, BARRIER, EQUAL, FORK, GREATER, HEADS, IF, JOIN, LESS, LOCK, MINUS, NOT,
+    NUMBER, OPEN_PAREN, OR, PERCENT, PLUS, PRINT, READ, ROWS, SELF, SETTLE, SLASH, STAR, UNEQUAL,
+    UNLOCK, WHEN, WHILE, WRITE,
+};
 use std::alloc::{AllocError, Global};
 use task_parser::Kind;
+use text_pieces::Piece::Word;
+use text_pieces::push_pieces;
 
-// Kinds by which an expression begins: a number, a name, a data variable, `-`, `not`, `self`, `rows`, `(`.
-static EXPRESSION: [Kind; 8] = [
-    Kind::Num(1),
+// A group of kinds that has a name: its bit, its kinds, and its name.
+type Group = (u8, &'static [Kind], &'static [u8]);
+
+// Kinds by which a data statement begins.
+const DATA_STATEMENT: &[Kind] = &[Kind::Reg, READ, WRITE, PRINT, WHEN];
+
+// Kinds by which any statement begins.
+const STATEMENT: &[Kind] = &[
+    Kind::Reg,
+    READ,
+    WRITE,
+    PRINT,
+    WHEN,
+    Kind::Name,
+    WHILE,
+    IF,
+    LOCK,
+    UNLOCK,
+    FORK,
+    JOIN,
+    BARRIER,
+    SETTLE,
+];
+
+// Kinds by which an expression begins.
+const EXPRESSION: &[Kind] = &[
+    NUMBER,
     Kind::Name,
     Kind::Reg,
-    Kind::Mark(16),
-    Kind::Word(21),
-    Kind::Word(22),
-    Kind::Word(23),
-    Kind::Mark(2),
+    MINUS,
+    NOT,
+    SELF,
+    ROWS,
+    OPEN_PAREN,
 ];
 
-// Kinds by which a data statement begins: a data variable, `read`, `write`, `print`, `when`.
-static DATA_STATEMENT: [Kind; 5] = [
-    Kind::Reg,
-    Kind::Word(15),
-    Kind::Word(16),
-    Kind::Word(17),
-    Kind::Word(18),
+// The operators that are no comparisons.
+const JOINING: &[Kind] = &[OR, AND, PLUS, MINUS, STAR, SLASH, PERCENT];
+
+// All operators.
+const OPERATOR: &[Kind] = &[
+    OR, AND, PLUS, MINUS, STAR, SLASH, PERCENT, EQUAL, UNEQUAL, LESS, AT_MOST, GREATER, AT_LEAST,
 ];
 
-// Kinds by which any statement begins: those, and a name, `while`, `if`, `lock`, `unlock`, `fork`, `join`, `barrier`,
-// `settle`.
-static STATEMENT: [Kind; 14] = [
-    Kind::Reg,
-    Kind::Word(15),
-    Kind::Word(16),
-    Kind::Word(17),
-    Kind::Word(18),
-    Kind::Name,
-    Kind::Word(9),
-    Kind::Word(10),
-    Kind::Word(0),
-    Kind::Word(1),
-    Kind::Word(12),
-    Kind::Word(14),
-    Kind::Word(2),
-    Kind::Word(24),
-];
-
-// `lock`, `barrier`, `record`, `feed`.
-static HEAD: [Kind; 4] = [Kind::Word(0), Kind::Word(2), Kind::Word(3), Kind::Word(6)];
-
-// The operators that are no comparisons: `or`, `and`, `+`, `-`, `*`, `/`, `%`.
-static JOINING: [Kind; 7] = [
-    Kind::Word(20),
-    Kind::Word(19),
-    Kind::Mark(15),
-    Kind::Mark(16),
-    Kind::Mark(17),
-    Kind::Mark(18),
-    Kind::Mark(19),
-];
-
-// All operators: those, and `==`, `!=`, `<`, `<=`, `>`, `>=`.
-static OPERATOR: [Kind; 13] = [
-    Kind::Word(20),
-    Kind::Word(19),
-    Kind::Mark(15),
-    Kind::Mark(16),
-    Kind::Mark(17),
-    Kind::Mark(18),
-    Kind::Mark(19),
-    Kind::Mark(9),
-    Kind::Mark(10),
-    Kind::Mark(11),
-    Kind::Mark(12),
-    Kind::Mark(13),
-    Kind::Mark(14),
+// The groups in the order in which they are looked for.
+static GROUPS: [Group; 8] = [
+    (1, EXPRESSION, b"an expression"),
+    (2, STATEMENT, b"a statement"),
+    (4, DATA_STATEMENT, b"a data statement"),
+    (8, HEADS, b"a head"),
+    (16, OPERATOR, b"an operator"),
+    (32, JOINING, b"an operator that is no comparison"),
+    (64, &[NUMBER, Kind::Name], b"a number or a control variable"),
+    (128, &[Kind::Name, Kind::Reg], b"a variable"),
 ];
 
 /// Whether the kind is among these.
@@ -85,137 +77,132 @@ pub fn has(kinds: &[Kind], kind: Kind) -> bool {
     false
 }
 
-// Whether all of the group are among the kinds.
-fn has_all(kinds: &[Kind], group: &[Kind]) -> bool {
-    for kind in group {
-        if !has(kinds, *kind) {
+// Whether the kind is in one of these groups.
+fn is_in(groups: u8, kind: Kind) -> bool {
+    for (bit, members, _) in &GROUPS {
+        if groups & *bit != 0 && has(members, kind) {
+            return true;
+        }
+    }
+    false
+}
+
+// Whether all members of a group are among the kinds, and in none of these groups.
+fn has_all(kinds: &[Kind], groups: u8, members: &[Kind]) -> bool {
+    for kind in members {
+        if !has(kinds, *kind) || is_in(groups, *kind) {
             return false;
         }
     }
     true
 }
 
-// A group of kinds that has a name.
-#[derive(Clone, Copy)]
-enum Group {
-    Expression,
-    Statement,
-    DataStatement,
-    Head,
-    Operator,
-    Joining,
-    Index,
-    Variable,
-}
-
-// The groups in the order in which they are looked for.
-static GROUPS: [Group; 8] = [
-    Group::Expression,
-    Group::Statement,
-    Group::DataStatement,
-    Group::Head,
-    Group::Operator,
-    Group::Joining,
-    Group::Index,
-    Group::Variable,
-];
-
-fn kinds_of(group: Group) -> &'static [Kind] {
-    match group {
-        Group::Expression => &EXPRESSION,
-        Group::Statement => &STATEMENT,
-        Group::DataStatement => &DATA_STATEMENT,
-        Group::Head => &HEAD,
-        Group::Operator => &OPERATOR,
-        Group::Joining => &JOINING,
-        Group::Index => &[Kind::Num(1), Kind::Name],
-        Group::Variable => &[Kind::Name, Kind::Reg],
+// The groups among the kinds: no kind counts for two of them.
+fn groups_in(kinds: &[Kind]) -> u8 {
+    let mut groups: u8 = 0;
+    for (bit, members, _) in &GROUPS {
+        if has_all(kinds, groups, members) {
+            groups |= *bit;
+        }
     }
+    groups
 }
 
-fn name_of(group: Group) -> &'static [u8] {
-    match group {
-        Group::Expression => b"an expression",
-        Group::Statement => b"a statement",
-        Group::DataStatement => b"a data statement",
-        Group::Head => b"a head",
-        Group::Operator => b"an operator",
-        Group::Joining => b"an operator that is no comparison",
-        Group::Index => b"a number or a control variable",
-        Group::Variable => b"a variable",
-    }
-}
-
-// What could stand at a place: single kinds, and groups of kinds.
-#[derive(Drop)]
-struct Named {
-    kinds: Vec<Kind>,
-    groups: Vec<Group>,
-}
-
-// The kinds that are not of the group.
-fn without(alloc: Global, kinds: &[Kind], group: &[Kind]) -> Result<Vec<Kind>, AllocError> {
-    let mut left = Vec::new(alloc);
+// How many names these groups and the kinds outside of them have.
+fn count_of(kinds: &[Kind], groups: u8) -> usize {
+    let mut count: usize = 0;
     for kind in kinds {
-        if !has(group, *kind) {
-            left.push(*kind)?;
+        if !is_in(groups, *kind) {
+            count = count.saturating_add(1);
         }
     }
-    Ok(left)
-}
-
-fn groups_in(alloc: Global, kinds: &[Kind]) -> Result<Named, AllocError> {
-    let mut left = Vec::from_slice(alloc, kinds)?;
-    let mut groups = Vec::new(alloc);
-    for group in &GROUPS {
-        let members = kinds_of(*group);
-        if has_all(&left, members) {
-            left = without(alloc, &left, members)?;
-            groups.push(*group)?;
+    for (bit, _, _) in &GROUPS {
+        if groups & *bit != 0 {
+            count = count.saturating_add(1);
         }
     }
-    Ok(Named {
-        kinds: left,
-        groups,
-    })
+    count
 }
 
-// Appends what stands before the name at a place among so many.
-fn push_joint(text: &mut Vec<u8>, at: usize, count: usize) -> Result<(), AllocError> {
+// What stands before the name at a place among so many.
+fn joint(at: usize, count: usize) -> &'static [u8] {
     if at == 0 {
-        Ok(())
+        b"; "
     } else if at.saturating_add(1) == count {
-        text.extend_from_slice(b" or ")
+        b" or "
     } else {
-        text.extend_from_slice(b", ")
+        b", "
     }
 }
 
-// Appends what was expected by its names, the single kinds first.
-fn push_named(text: &mut Vec<u8>, named: &Named) -> Result<(), AllocError> {
-    text.extend_from_slice(b"; ")?;
-    let count = named.kinds.len().saturating_add(named.groups.len());
-    for (at, kind) in named.kinds.as_slice().iter().enumerate() {
-        push_joint(text, at, count)?;
-        push_kind(text, *kind)?;
+// What a kind of token is called, and the mark around that.
+fn called(kind: Kind) -> (&'static [u8], &'static [u8]) {
+    match kind {
+        Kind::Num(_) => (b"", b"a number"),
+        Kind::Name => (b"", b"a name"),
+        Kind::Reg => (b"", b"a data variable"),
+        Kind::Quoted => (b"", b"a text in quotes"),
+        Kind::Word(row) => (b"`", word_text(row)),
+        Kind::Mark(row) => (b"`", mark_text(row)),
     }
-    push_groups(text, named, count)?;
-    text.extend_from_slice(b" was expected")
 }
 
-fn push_groups(text: &mut Vec<u8>, named: &Named, count: usize) -> Result<(), AllocError> {
-    for (at, group) in named.groups.as_slice().iter().enumerate() {
-        push_joint(text, named.kinds.len().saturating_add(at), count)?;
-        text.extend_from_slice(name_of(*group))?;
+// Appends what a kind of token is called, at a place among so many.
+fn push_kind(text: &mut Vec<u8>, kind: Kind, at: usize, count: usize) -> Result<(), AllocError> {
+    let (around, name) = called(kind);
+    push_pieces(
+        text,
+        &[
+            Word(joint(at, count)),
+            Word(around),
+            Word(name),
+            Word(around),
+        ],
+    )
+}
+
+// Appends the names of the kinds outside of these groups, which stand first of so many. The answer is how many there are.
+fn push_kinds(
+    text: &mut Vec<u8>,
+    kinds: &[Kind],
+    groups: u8,
+    count: usize,
+) -> Result<usize, AllocError> {
+    let mut at: usize = 0;
+    for kind in kinds {
+        if !is_in(groups, *kind) {
+            push_kind(text, *kind, at, count)?;
+            at = at.saturating_add(1);
+        }
+    }
+    Ok(at)
+}
+
+// Appends the names of these groups, which so many of all names stand before.
+fn push_groups(
+    text: &mut Vec<u8>,
+    groups: u8,
+    before: usize,
+    count: usize,
+) -> Result<(), AllocError> {
+    let mut at = before;
+    for (bit, _, name) in &GROUPS {
+        if groups & *bit != 0 {
+            push_pieces(text, &[Word(joint(at, count)), Word(name)])?;
+            at = at.saturating_add(1);
+        }
     }
     Ok(())
 }
 
-/// Appends what was expected, where these kinds could stand.
-pub fn push_expected(alloc: Global, text: &mut Vec<u8>, kinds: &[Kind]) -> Result<(), AllocError> {
+/// Appends what was expected by its names, where these kinds could stand: the single kinds first.
+pub fn push_expected(_alloc: Global, text: &mut Vec<u8>, kinds: &[Kind]) -> Result<(), AllocError> {
     if kinds.is_empty() {
         return Ok(());
     }
-    let named = groups_in(alloc, kinds)?;
-    push_named(text, &named)
+    let groups = groups_in(kinds);
+    let count = count_of(kinds, groups);
+    let before = push_kinds(text, kinds, groups, count)?;
+    push_groups(text, groups, before, count)?;
+    text.extend_from_slice(b" was expected")
 }

@@ -17,9 +17,45 @@ const ROWS: &[u8] = b"no name has fields: `rows(f)` is the number of rows of fee
 const FIELDS: &[u8] =
     b"no name has fields: a cell of a feed is `f[i, 0]`, and one of a record is read by `read r[i] into $x;`";
 
-static COUNTS: [&[u8]; 5] = [b".rows", b".len", b".size", b".count", b".num"];
+// What follows a name in other languages, and what is told of it.
+static MEMBERS: [(&[u8], &[u8]); 8] = [
+    (b".rows", ROWS),
+    (b".len", ROWS),
+    (b".size", ROWS),
+    (b".count", ROWS),
+    (b".num", ROWS),
+    (b".join", b"write `join h into $x;`, or `join h;`"),
+    (b".lock", b"write `lock l[i]; .. unlock l[i];`"),
+    (b".unlock", b"write `lock l[i]; .. unlock l[i];`"),
+];
 
-static LOCKS: [&[u8]; 2] = [b".lock", b".unlock"];
+// Bytes that can't stand anywhere, and what is told of them.
+static BYTES: [(u8, &[u8]); 9] = [
+    (
+        b'!',
+        b"`not e` is what other languages write `!e`, and `!=` is one mark",
+    ),
+    (b'&', b"`d and e` is what other languages write `d && e`"),
+    (b'|', b"`d or e` is what other languages write `d || e`"),
+    (
+        b'$',
+        b"the name of a data variable follows its `$` directly",
+    ),
+    (
+        b'\'',
+        b"there are numbers alone, and texts in double quotes for the names of files",
+    ),
+    (
+        b'`',
+        b"there are numbers alone, and texts in double quotes for the names of files",
+    ),
+    (
+        b'?',
+        b"write `if e { .. } else { .. }`, or for data `when e { .. } else { .. }`",
+    ),
+    (b'^', b"there is no power: write `a * a`"),
+    (b'~', b"`not e` is 1 where e is 0, and else 0"),
+];
 
 // Words after which a block begins.
 static HEADS: [&[u8]; 4] = [b"if", b"else", b"while", b"when"];
@@ -65,16 +101,6 @@ fn is_between_thousands(program: &[u8], at: usize) -> bool {
     digits == 3 && is_digit(program.get(at.saturating_sub(1)))
 }
 
-// Whether a word stands at the front.
-fn begins_with(rest: &[u8], words: &[&[u8]]) -> bool {
-    for word in words {
-        if rest.starts_with(word) {
-            return true;
-        }
-    }
-    false
-}
-
 // Whether the line has the word `from` before these last bytes of it.
 fn names_file(line: &[u8]) -> bool {
     for at in 0..line.len() {
@@ -83,6 +109,20 @@ fn names_file(line: &[u8]) -> bool {
         }
     }
     false
+}
+
+// What to write in place of a point and what follows it.
+fn member_hint(rest: &[u8]) -> &'static [u8] {
+    for (member, told) in &MEMBERS {
+        if rest.starts_with(member) {
+            return told;
+        }
+    }
+    if is_letter(rest.get(1)) {
+        FIELDS
+    } else {
+        CENTS
+    }
 }
 
 // What to write in place of a point.
@@ -98,16 +138,8 @@ fn point_hint(program: &[u8], at: usize) -> &'static [u8] {
         GROUPED
     } else if is_digit(before) || is_digit(after) {
         CENTS
-    } else if begins_with(rest, &COUNTS) {
-        ROWS
-    } else if rest.starts_with(b".join") {
-        b"write `join h into $x;`, or `join h;`"
-    } else if begins_with(rest, &LOCKS) {
-        b"write `lock l[i]; .. unlock l[i];`"
-    } else if is_letter(after) {
-        FIELDS
     } else {
-        CENTS
+        member_hint(rest)
     }
 }
 
@@ -151,14 +183,10 @@ fn begins_block(line: &[u8]) -> bool {
     is_among(&HEADS, word) || word.starts_with(b"task") && line.ends_with(b")")
 }
 
-// What to write in place of a `:`.
-fn colon_hint(program: &[u8], at: usize) -> Option<&'static [u8]> {
-    let line = line_before(program, at);
+// What to write in place of a `:` at this place after such a line.
+fn colon_hint(program: &[u8], at: usize, line: &[u8]) -> Option<&'static [u8]> {
     let next = program.get(at.saturating_add(1));
-    let word = first_word(line);
-    if beginning(word).is_some() {
-        beginning(word)
-    } else if next == Some(&b'=') {
+    if next == Some(&b'=') {
         Some(b"write `i = 3;`")
     } else if is_digit(next) || is_letter(next) {
         None
@@ -173,23 +201,27 @@ fn colon_hint(program: &[u8], at: usize) -> Option<&'static [u8]> {
     }
 }
 
+// What to write in place of a byte that can't stand anywhere.
+fn told_of(wanted: u8) -> Option<&'static [u8]> {
+    for (byte, told) in &BYTES {
+        if *byte == wanted {
+            return Some(told);
+        }
+    }
+    None
+}
+
 // What to write in place of a byte that can't stand where it is shown.
 fn byte_hint(program: &[u8], at: usize) -> Option<&'static [u8]> {
-    match program.get(at)? {
+    let line = line_before(program, at);
+    match *program.get(at)? {
         b'.' => Some(point_hint(program, at)),
-        b'!' => Some(b"`not e` is what other languages write `!e`, and `!=` is one mark"),
-        b'&' => Some(b"`d and e` is what other languages write `d && e`"),
-        b'|' => Some(b"`d or e` is what other languages write `d || e`"),
-        b'$' => Some(b"the name of a data variable follows its `$` directly"),
         b'\'' if is_between_thousands(program, at) => Some(GROUPED),
-        b'\'' | b'`' => Some(
-            b"there are numbers alone, and texts in double quotes for the names of files",
-        ),
-        b':' => colon_hint(program, at),
-        b'?' => Some(b"write `if e { .. } else { .. }`, or for data `when e { .. } else { .. }`"),
-        b'^' => Some(b"there is no power: write `a * a`"),
-        b'~' => Some(b"`not e` is 1 where e is 0, and else 0"),
-        _ => None,
+        b':' => match beginning(first_word(line)) {
+            Some(told) => Some(told),
+            None => colon_hint(program, at, line),
+        },
+        byte => told_of(byte),
     }
 }
 

@@ -21,6 +21,7 @@ mod name_hints;
 mod odd_bytes;
 mod pasts;
 mod pieces;
+mod rules;
 mod spelling;
 mod spots;
 mod statement_hints;

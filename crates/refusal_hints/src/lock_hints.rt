@@ -1,25 +1,39 @@
 // What is told of the locks that are held, and of the one that is missing.
 
 use crate::pasts::{Past, Spelt, missed, past_of};
-use crate::pieces::{push_between, push_words};
-use crate::spelling::{push_cell, push_taken};
+use crate::pieces::comma;
+use crate::spelling::index_piece;
 use gp_base::Name;
 use rule_blame::{Blame, Taken, Told};
 use std::alloc::AllocError;
 use task_ast::{CheckKind, Head, Program};
+use text_pieces::Piece::{Number, Word};
+use text_pieces::push_pieces;
+
+// Appends a lock that is held, with a comma before it where it is not the first.
+fn push_taken(text: &mut Vec<u8>, at: usize, taken: Taken<'_>) -> Result<(), AllocError> {
+    push_pieces(
+        text,
+        &[
+            Word(comma(at)),
+            Word(taken.array.as_slice()),
+            Word(b"["),
+            index_piece(taken.index),
+            Word(b"] (taken in line "),
+            Number(u64::from(taken.line)),
+            Word(b")"),
+        ],
+    )
+}
 
 // Appends the locks that are held.
 fn push_held(text: &mut Vec<u8>, held: &[Taken<'_>]) -> Result<(), AllocError> {
-    text.extend_from_slice(b"held here: ")?;
     if held.is_empty() {
-        text.extend_from_slice(b"nothing")?;
+        return text.extend_from_slice(b"held here: nothing\n");
     }
+    text.extend_from_slice(b"held here: ")?;
     for (at, taken) in held.iter().enumerate() {
-        if at > 0 {
-            text.extend_from_slice(b", ")?;
-        }
-        push_taken(text, taken)?;
-        push_between(text, b" (taken in line ", u64::from(taken.line), b")")?;
+        push_taken(text, at, *taken)?;
     }
     text.extend_from_slice(b"\n")
 }
@@ -29,14 +43,19 @@ fn push_given(text: &mut Vec<u8>, lock: Spelt<'_>, past: Past) -> Result<bool, A
     let Past::Given { taken, back } = past else {
         return Ok(false);
     };
-    push_cell(text, lock.array, lock.index)?;
-    push_between(
+    push_pieces(
         text,
-        b", taken in line ",
-        u64::from(taken),
-        b", was given back in line ",
+        &[
+            Word(lock.array.as_slice()),
+            Word(b"["),
+            index_piece(lock.index),
+            Word(b"], taken in line "),
+            Number(u64::from(taken)),
+            Word(b", was given back in line "),
+            Number(u64::from(back)),
+            Word(b"\n"),
+        ],
     )?;
-    push_between(text, b"", u64::from(back), b"\n")?;
     Ok(true)
 }
 
@@ -51,16 +70,25 @@ fn held_of<'a>(held: &[Taken<'a>], array: &Name) -> Option<Taken<'a>> {
 }
 
 // Appends that a lock of the same array is held by another index.
-fn push_other_index(
+fn push_other_index<'a>(
     text: &mut Vec<u8>,
-    taken: &Taken<'_>,
-    lock: Spelt<'_>,
+    taken: Taken<'a>,
+    lock: Spelt<'a>,
 ) -> Result<(), AllocError> {
-    text.extend_from_slice(b"hint: ")?;
-    push_taken(text, taken)?;
-    text.extend_from_slice(b" and ")?;
-    push_cell(text, lock.array, lock.index)?;
-    text.extend_from_slice(b" count as two locks, even where both indices are equal\n")
+    push_pieces(
+        text,
+        &[
+            Word(b"hint: "),
+            Word(taken.array.as_slice()),
+            Word(b"["),
+            index_piece(taken.index),
+            Word(b"] and "),
+            Word(lock.array.as_slice()),
+            Word(b"["),
+            index_piece(lock.index),
+            Word(b"] count as two locks, even where both indices are equal\n"),
+        ],
+    )
 }
 
 // The line that declares a record.
@@ -75,28 +103,46 @@ fn record_line(heads: &[Head], cells: &Name) -> Option<u32> {
     None
 }
 
-// Appends under which locks a record stands, and how a cell of it is touched.
-fn push_guard(
+// Appends under which locks a record stands, and the line that says it.
+fn push_under<'a>(
     text: &mut Vec<u8>,
-    program: &Program,
-    cells: &Name,
-    lock: Spelt<'_>,
+    cells: &'a Name,
+    array: &'a Name,
+    line: Option<u32>,
 ) -> Result<(), AllocError> {
-    push_words(
+    let (by_line, number) = match line {
+        Some(line) => (b", by line ".as_slice(), Number(u64::from(line))),
+        None => (b"".as_slice(), Word(b"")),
+    };
+    push_pieces(
         text,
-        b"hint: ",
-        cells.as_slice(),
-        b" stands under the locks ",
-    )?;
-    text.extend_from_slice(lock.array.as_slice())?;
-    if let Some(line) = record_line(program.heads.as_slice(), cells) {
-        push_between(text, b", by line ", u64::from(line), b"")?;
-    }
-    text.extend_from_slice(b": `lock ")?;
-    push_cell(text, lock.array, lock.index)?;
-    text.extend_from_slice(b";` before this statement, and `unlock ")?;
-    push_cell(text, lock.array, lock.index)?;
-    text.extend_from_slice(b";` after it\n")
+        &[
+            Word(b"hint: "),
+            Word(cells.as_slice()),
+            Word(b" stands under the locks "),
+            Word(array.as_slice()),
+            Word(by_line),
+            number,
+        ],
+    )
+}
+
+// Appends how a cell that stands under a lock is touched.
+fn push_touch(text: &mut Vec<u8>, lock: Spelt<'_>) -> Result<(), AllocError> {
+    push_pieces(
+        text,
+        &[
+            Word(b": `lock "),
+            Word(lock.array.as_slice()),
+            Word(b"["),
+            index_piece(lock.index),
+            Word(b"];` before this statement, and `unlock "),
+            Word(lock.array.as_slice()),
+            Word(b"["),
+            index_piece(lock.index),
+            Word(b"];` after it\n"),
+        ],
+    )
 }
 
 // Appends why the lock may be missing.
@@ -109,19 +155,32 @@ fn push_missing(
     if push_given(text, lock, past_of(program, told, lock))? {
         return Ok(());
     }
-    match (held_of(&told.held, lock.array), told.blame) {
-        (Some(taken), _) => push_other_index(text, &taken, lock),
-        (None, Blame::Unguarded { cells, .. }) => push_guard(text, program, cells, lock),
-        _ => Ok(()),
+    if let Some(taken) = held_of(&told.held, lock.array) {
+        return push_other_index(text, taken, lock);
     }
+    let Blame::Unguarded { cells, .. } = told.blame else {
+        return Ok(());
+    };
+    push_under(
+        text,
+        cells,
+        lock.array,
+        record_line(program.heads.as_slice(), cells),
+    )?;
+    push_touch(text, lock)
 }
 
 // Appends what to do where the index of a held lock is set.
-fn push_own_index(text: &mut Vec<u8>, taken: &Taken<'_>) -> Result<(), AllocError> {
-    text.extend_from_slice(b"hint: `unlock ")?;
-    push_taken(text, taken)?;
-    text.extend_from_slice(
-        b";` before this statement, or a variable of its own for the new value\n",
+fn push_own_index(text: &mut Vec<u8>, taken: Taken<'_>) -> Result<(), AllocError> {
+    push_pieces(
+        text,
+        &[
+            Word(b"hint: `unlock "),
+            Word(taken.array.as_slice()),
+            Word(b"["),
+            index_piece(taken.index),
+            Word(b"];` before this statement, or a variable of its own for the new value\n"),
+        ],
     )
 }
 
@@ -136,7 +195,7 @@ pub fn push_lock_hints(
     if kind == CheckKind::NotHeld {
         push_held(text, &told.held)?;
     }
-    if let Blame::IndexSet { taken, .. } = &told.blame {
+    if let Blame::IndexSet { taken, .. } = told.blame {
         return push_own_index(text, taken);
     }
     let Some(lock) = missed(told) else {

@@ -2,6 +2,8 @@
 
 use crate::pieces::push_words;
 use std::alloc::AllocError;
+use text_pieces::Piece::Word;
+use text_pieces::push_pieces;
 
 // What the bytes at a place are.
 #[derive(Clone, Copy)]
@@ -196,13 +198,37 @@ fn push_hex(text: &mut Vec<u8>, bytes: &[u8]) -> Result<(), AllocError> {
     Ok(())
 }
 
-// Appends what to do about them.
+// What to do about them.
+fn advice(odd: Odd, place: Place) -> &'static [u8] {
+    if place == Place::Program {
+        advice_in_program(odd)
+    } else {
+        advice_in_field(odd)
+    }
+}
+
+// Appends where they stand, and what to do about them.
 fn push_advice(text: &mut Vec<u8>, odd: Odd, place: Place) -> Result<(), AllocError> {
+    let stands: &[u8] = if place == Place::Program {
+        b") stands here: "
+    } else {
+        b") stands in the field: "
+    };
     match odd {
-        Odd::Wide(plain) => push_words(text, b"put a plain `", &[plain], b"`\n"),
-        Odd::Sign(words) => push_words(text, b"write `", words, b"`\n"),
-        _ if place == Place::Program => push_words(text, advice_in_program(odd), b"\n", b""),
-        _ => push_words(text, advice_in_field(odd), b"\n", b""),
+        Odd::Wide(plain) => push_pieces(
+            text,
+            &[
+                Word(stands),
+                Word(b"put a plain `"),
+                Word(&[plain]),
+                Word(b"`\n"),
+            ],
+        ),
+        Odd::Sign(words) => push_pieces(
+            text,
+            &[Word(stands), Word(b"write `"), Word(words), Word(b"`\n")],
+        ),
+        _ => push_words(text, stands, advice(odd, place), b"\n"),
     }
 }
 
@@ -213,16 +239,13 @@ fn push_hint(text: &mut Vec<u8>, bytes: &[u8], odd: Odd, place: Place) -> Result
             b"hint: the bytes EF BB BF are a byte-order mark, which editors on Windows put first: save the file as UTF-8 without it\n",
         );
     }
-    push_words(text, b"hint: ", name_of(odd), b" (byte")?;
-    if bytes.len() > 1 {
-        text.extend_from_slice(b"s")?;
-    }
-    push_hex(text, bytes)?;
-    text.extend_from_slice(if place == Place::Program {
-        b") stands here: "
+    let count: &[u8] = if bytes.len() > 1 {
+        b" (bytes"
     } else {
-        b") stands in the field: "
-    })?;
+        b" (byte"
+    };
+    push_words(text, b"hint: ", name_of(odd), count)?;
+    push_hex(text, bytes)?;
     push_advice(text, odd, place)
 }
 

@@ -39,6 +39,11 @@ pub fn push_words(
     text.extend_from_slice(third)
 }
 
+/// The comma before what stands at this place in a list, if it is not the first.
+pub fn comma(at: usize) -> &'static [u8] {
+    if at > 0 { b", " } else { b"" }
+}
+
 /// Appends a hint as a line.
 pub fn push_hint(text: &mut Vec<u8>, hint: &[u8]) -> Result<(), AllocError>
     ensures { OnOk result (text.new.items ≡ text.old.items ++ codes "hint: " ++ hint.now ++ codes "\n") }

@@ -1,12 +1,9 @@
 // How kinds of tokens and names are spelt.
 
 use crate::foreign::are_alike;
-use crate::pieces::{push_number, push_words};
-use gp_base::Name;
-use rule_blame::{Role, Taken};
-use std::alloc::AllocError;
+use rule_blame::Role;
 use task_ast::Atom;
-use task_parser::Kind;
+use text_pieces::Piece;
 
 static WORDS: [&[u8]; 25] = [
     b"lock", b"unlock", b"barrier", b"record", b"by", b"from", b"feed", b"task", b"var", b"while",
@@ -20,11 +17,21 @@ static MARKS: [&[u8]; 20] = [
 ];
 
 // The text of a row of a table, or nothing past its end.
-fn text_in<'a>(table: &[&'a [u8]], row: usize) -> &'a [u8] {
-    match table.get(row) {
+fn text_in<'a>(table: &[&'a [u8]], row: u8) -> &'a [u8] {
+    match table.get(row as usize) {
         Some(text) => text,
         None => b"",
     }
+}
+
+/// The word of this number.
+pub fn word_text(row: u8) -> &'static [u8] {
+    text_in(&WORDS, row)
+}
+
+/// The mark of this number.
+pub fn mark_text(row: u8) -> &'static [u8] {
+    text_in(&MARKS, row)
 }
 
 /// Whether a word is one of the language once its letters are in lower case, and not before.
@@ -37,50 +44,15 @@ pub fn is_word(word: &[u8]) -> bool {
     false
 }
 
-/// Appends what a kind of token is called.
-pub fn push_kind(text: &mut Vec<u8>, kind: Kind) -> Result<(), AllocError> {
-    match kind {
-        Kind::Num(_) => text.extend_from_slice(b"a number"),
-        Kind::Name => text.extend_from_slice(b"a name"),
-        Kind::Reg => text.extend_from_slice(b"a data variable"),
-        Kind::Quoted => text.extend_from_slice(b"a text in quotes"),
-        Kind::Word(row) => push_words(text, b"`", text_in(&WORDS, row as usize), b"`"),
-        Kind::Mark(row) => push_words(text, b"`", text_in(&MARKS, row as usize), b"`"),
-    }
+/// The `$` before a name, where it is a data variable's.
+pub fn dollar(role: Role) -> &'static [u8] {
+    if role == Role::Data { b"$" } else { b"" }
 }
 
-/// Appends a name, with a `$` where it is a data variable's.
-pub fn push_name(text: &mut Vec<u8>, role: Role, name: &Name) -> Result<(), AllocError> {
-    if role == Role::Data {
-        text.extend_from_slice(b"$")?;
-    }
-    text.extend_from_slice(name.as_slice())
-}
-
-// Appends a signed number.
-fn push_signed(text: &mut Vec<u8>, number: i64) -> Result<(), AllocError> {
-    if number < 0 {
-        text.extend_from_slice(b"-")?;
-    }
-    push_number(text, number.unsigned_abs())
-}
-
-// Appends an index.
-fn push_index(text: &mut Vec<u8>, index: &Atom) -> Result<(), AllocError> {
+/// An index as a piece of a text.
+pub fn index_piece<'a>(index: &'a Atom) -> Piece<'a> {
     match index {
-        Atom::Num(number) => push_signed(text, *number),
-        Atom::Var(name) => text.extend_from_slice(name.as_slice()),
+        Atom::Num(number) => Piece::Signed(*number),
+        Atom::Var(name) => Piece::Word(name.as_slice()),
     }
-}
-
-/// Appends a cell of an array.
-pub fn push_cell(text: &mut Vec<u8>, array: &Name, index: &Atom) -> Result<(), AllocError> {
-    push_words(text, array.as_slice(), b"[", b"")?;
-    push_index(text, index)?;
-    text.extend_from_slice(b"]")
-}
-
-/// Appends a lock.
-pub fn push_taken(text: &mut Vec<u8>, taken: &Taken<'_>) -> Result<(), AllocError> {
-    push_cell(text, taken.array, taken.index)
 }

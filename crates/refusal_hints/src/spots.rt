@@ -25,13 +25,21 @@ pub const ASSIGN: Kind = Kind::Mark(8);
 
 pub const EQUAL: Kind = Kind::Mark(9);
 
+pub const UNEQUAL: Kind = Kind::Mark(10);
+
 pub const LESS: Kind = Kind::Mark(11);
 
+pub const AT_MOST: Kind = Kind::Mark(12);
+
 pub const GREATER: Kind = Kind::Mark(13);
+
+pub const AT_LEAST: Kind = Kind::Mark(14);
 
 pub const PLUS: Kind = Kind::Mark(15);
 
 pub const MINUS: Kind = Kind::Mark(16);
+
+pub const STAR: Kind = Kind::Mark(17);
 
 pub const SLASH: Kind = Kind::Mark(18);
 
@@ -43,13 +51,19 @@ pub const UNLOCK: Kind = Kind::Word(1);
 
 pub const BARRIER: Kind = Kind::Word(2);
 
+pub const RECORD: Kind = Kind::Word(3);
+
 pub const BY: Kind = Kind::Word(4);
+
+pub const FROM: Kind = Kind::Word(5);
 
 pub const FEED: Kind = Kind::Word(6);
 
 pub const TASK: Kind = Kind::Word(7);
 
 pub const VAR: Kind = Kind::Word(8);
+
+pub const WHILE: Kind = Kind::Word(9);
 
 pub const IF: Kind = Kind::Word(10);
 
@@ -69,7 +83,62 @@ pub const PRINT: Kind = Kind::Word(17);
 
 pub const WHEN: Kind = Kind::Word(18);
 
+pub const AND: Kind = Kind::Word(19);
+
+pub const OR: Kind = Kind::Word(20);
+
+pub const NOT: Kind = Kind::Word(21);
+
+pub const SELF: Kind = Kind::Word(22);
+
+pub const ROWS: Kind = Kind::Word(23);
+
 pub const SETTLE: Kind = Kind::Word(24);
+
+/// Any number.
+pub const NUMBER: Kind = Kind::Num(1);
+
+/// Words by which heads begin.
+pub const HEADS: &[Kind] = &[LOCK, BARRIER, RECORD, FEED];
+
+/// Words by which control statements begin.
+pub const CONTROLS: &[Kind] = &[LOCK, UNLOCK, BARRIER, WHILE, IF, FORK, JOIN, SETTLE];
+
+/// Words that stand in tasks alone: `unlock`, and those from `var` on.
+pub const IN_TASK: &[Kind] = &[
+    UNLOCK, VAR, WHILE, IF, ELSE, FORK, INTO, JOIN, READ, WRITE, PRINT, WHEN, AND, OR, NOT, SELF,
+    ROWS, SETTLE,
+];
+
+/// Names and words.
+pub const SPELT: &[Kind] = &[
+    Kind::Name,
+    LOCK,
+    UNLOCK,
+    BARRIER,
+    RECORD,
+    BY,
+    FROM,
+    FEED,
+    TASK,
+    VAR,
+    WHILE,
+    IF,
+    ELSE,
+    FORK,
+    INTO,
+    JOIN,
+    READ,
+    WRITE,
+    PRINT,
+    WHEN,
+    AND,
+    OR,
+    NOT,
+    SELF,
+    ROWS,
+    SETTLE,
+];
 
 /// A token that can't stand where it does, and what could stand there.
 #[derive(Clone, Copy)]
@@ -121,14 +190,6 @@ impl<'a> Spot<'a> {
         Some(self.back(0)?.kind)
     }
 
-    pub fn kind_before(&self) -> Option<Kind> {
-        Some(self.back(1)?.kind)
-    }
-
-    pub fn kind_after(&self) -> Option<Kind> {
-        Some(self.after()?.kind)
-    }
-
     /// Whether this token is of the kind.
     pub fn is(&self, kind: Kind) -> bool {
         is_of(self.back(0), kind)
@@ -144,17 +205,9 @@ impl<'a> Spot<'a> {
         is_of(self.after(), kind)
     }
 
-    /// Whether this token follows a comparison.
-    pub fn follows_comparison(&self) -> bool {
-        match self.kind_before() {
-            Some(kind) => is_comparison(kind),
-            None => false,
-        }
-    }
-
     /// Whether this token follows a word of the language.
     pub fn follows_word(&self) -> bool {
-        matches!(self.kind_before(), Some(Kind::Word(_)))
+        matches!(self.back(1), Some(token) if matches!(token.kind, Kind::Word(_)))
     }
 
     pub fn bytes(&self, token: Option<&'a Token>) -> &'a [u8] {
@@ -196,11 +249,6 @@ impl<'a> Spot<'a> {
         are_joined(self.back(1), self.back(0))
     }
 
-    /// Whether the next token stands right after this one.
-    pub fn is_joined_after(&self) -> bool {
-        are_joined(self.back(0), self.after())
-    }
-
     /// Whether the token before this one begins a statement or a block, or ends one.
     pub fn is_after_first(&self) -> bool {
         match self.back(2) {
@@ -212,11 +260,6 @@ impl<'a> Spot<'a> {
     /// The first token of the statement before this one, which has no block.
     pub fn first(&self) -> Option<&'a Token> {
         self.place.head_of(self.place.number)
-    }
-
-    /// Whether the statement before this token, which has no block, begins with a token of this kind.
-    pub fn is_in(&self, kind: Kind) -> bool {
-        is_of(self.first(), kind)
     }
 
     /// Whether this token follows the `else` of a `when`.

@@ -1,24 +1,71 @@
 // Hints on statements: what they lack at their end, and what stands between them.
 
-use crate::foreign::{BLOCK, is_among};
-use crate::spots::{
-    CLOSE_BLOCK, CLOSE_BRACKET, CLOSE_PAREN, COMMA, ELSE, FORK, LOCK, OPEN_BLOCK, OPEN_BRACKET,
-    PLUS, PRINT, READ, SEMICOLON, Spot, TASK, is_control,
+use crate::foreign::{BLOCK, ELSE_IF, is_among};
+use crate::rules::Rule;
+use crate::rules::Test::{
+    Apart, Before, Begins, Beside, ElseOfWhen, First, Has, InHead, Is, Opens, This,
 };
-use crate::told_hints::{Hint, Told, told_of};
+use crate::spots::{
+    CLOSE_BLOCK, CLOSE_BRACKET, CLOSE_PAREN, COMMA, ELSE, FORK, IF, LOCK, NUMBER, OPEN_BLOCK,
+    OPEN_BRACKET, PLUS, PRINT, READ, SEMICOLON, Spot, TASK, WHEN, WHILE, is_control,
+};
+use crate::told_hints::Hint;
 use std::alloc::{AllocError, Global};
 use task_parser::Kind;
 
-// Statements that have no block.
-static WITHOUT_BLOCK: [Told; 2] = [
+const WHEN_INSIDE: &[u8] = b"write `else { when e { .. } }`";
+
+// Tokens by which an expression in a list begins.
+const LISTED: &[Kind] = &[NUMBER, Kind::Name, Kind::Reg];
+
+/// The rules on the beginning of a block after a statement that has none, and on a statement right after an `else`.
+pub static OPENING_RULES: [Rule; 7] = [
+    (&[Opens, InHead], b"a head has no block, and ends with `;`"),
     (
-        LOCK,
+        &[Opens, First(&[LOCK])],
         b"a lock has no block: write `lock l[i]; .. unlock l[i];`",
     ),
     (
-        FORK,
+        &[Opens, First(&[FORK])],
         b"a fork has no block: what a thread does is a task, `task t(x) { .. }`",
     ),
+    (&[Before(&[ELSE]), Is(WHILE)], BLOCK),
+    (
+        &[Before(&[ELSE]), This(&[IF, WHEN]), ElseOfWhen],
+        WHEN_INSIDE,
+    ),
+    (&[Before(&[ELSE]), Is(IF)], ELSE_IF),
+    (&[Before(&[ELSE]), Is(WHEN)], WHEN_INSIDE),
+];
+
+/// The rules on an expression right after another in a list.
+pub static LIST_RULES: [Rule; 2] = [
+    (
+        &[This(LISTED), Has(COMMA), Has(PLUS), Beside, First(&[PRINT])],
+        b"values stand between commas: write `print e, g;`",
+    ),
+    (
+        &[This(LISTED), Has(COMMA), Has(PLUS), Beside, First(&[FORK])],
+        b"arguments stand between commas: write `fork t(e, g);`",
+    ),
+];
+
+// The rules on the end of a statement, of a parenthesis or of an index, or the beginning of a block, that is missing.
+static MISSING_RULES: [Rule; 5] = [
+    (
+        &[Has(SEMICOLON), Is(CLOSE_BLOCK)],
+        b"a statement ends with `;`",
+    ),
+    (
+        &[Has(CLOSE_PAREN), This(&[SEMICOLON, OPEN_BLOCK])],
+        b"a `(` is not closed",
+    ),
+    (
+        &[Has(CLOSE_BRACKET), This(&[SEMICOLON, OPEN_BLOCK])],
+        b"a `[` is not closed",
+    ),
+    (&[Has(OPEN_BLOCK), Apart], BLOCK),
+    (&[Has(OPEN_BLOCK), Begins], BLOCK),
 ];
 
 // Words by which a block begins in other languages.
@@ -27,23 +74,10 @@ static OPENINGS: [&[u8]; 3] = [b"do", b"begin", b"then"];
 impl<'a> Spot<'a> {
     /// What is missing before the token: the end of a statement, of a parenthesis, or the beginning of a block.
     pub fn missing_hint(&self) -> Option<Hint<'a>> {
-        let before = self.back(1)?;
-        let is_end = self.is(SEMICOLON) || self.is(OPEN_BLOCK);
         if self.has(SEMICOLON) && !self.is_beside() {
-            Some(Hint::NoEnd(before.line))
-        } else if self.has(SEMICOLON) && self.is(CLOSE_BLOCK) {
-            Some(Hint::Fixed(b"a statement ends with `;`"))
-        } else if self.has(CLOSE_PAREN) && is_end {
-            Some(Hint::Fixed(b"a `(` is not closed"))
-        } else if self.has(CLOSE_BRACKET) && is_end {
-            Some(Hint::Fixed(b"a `[` is not closed"))
-        } else if self.has(OPEN_BLOCK)
-            && !self.is(SEMICOLON)
-            && (!self.is_beside() || self.begins_statement())
-        {
-            Some(Hint::Fixed(BLOCK))
+            Some(Hint::NoEnd(self.back(1)?.line))
         } else {
-            None
+            Some(Hint::Fixed(self.told(&MISSING_RULES)?))
         }
     }
 
@@ -64,34 +98,9 @@ impl<'a> Spot<'a> {
         }
     }
 
-    // Whether a block begins at this token, here or in other languages.
-    fn opens(&self) -> bool {
-        self.is(OPEN_BLOCK) || is_among(&OPENINGS, self.bytes(self.back(0)))
-    }
-
-    /// The beginning of a block after a statement that has none.
-    pub fn opening_hint(&self) -> Option<&'static [u8]> {
+    /// Whether a block begins at this token, here or in other languages, where a statement or a head could go on or end.
+    pub fn opens(&self) -> bool {
         let is_end = self.has(SEMICOLON) || self.wants(OPEN_BRACKET);
-        if !is_end || !self.opens() {
-            return None;
-        }
-        if !self.is_after_task() {
-            return Some(b"a head has no block, and ends with `;`");
-        }
-        told_of(&WITHOUT_BLOCK, self.first()?.kind)
-    }
-
-    /// An expression right after another in a list.
-    pub fn list_comma_hint(&self) -> Option<&'static [u8]> {
-        let begins = matches!(self.kind()?, Kind::Num(_) | Kind::Name | Kind::Reg);
-        if !begins || !self.has(COMMA) || !self.has(PLUS) || !self.is_beside() {
-            None
-        } else if self.is_in(PRINT) {
-            Some(b"values stand between commas: write `print e, g;`")
-        } else if self.is_in(FORK) {
-            Some(b"arguments stand between commas: write `fork t(e, g);`")
-        } else {
-            None
-        }
+        is_end && (self.is(OPEN_BLOCK) || is_among(&OPENINGS, self.bytes(self.back(0))))
     }
 }

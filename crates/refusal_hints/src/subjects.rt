@@ -1,12 +1,13 @@
 // The token that a blame is about.
 
 use crate::blocks::is_end;
-use crate::pieces::{push_between, push_words};
 use gp_base::Name;
 use rule_blame::{Blame, Numbered, Role, Told, Use, push_uses};
 use std::alloc::{AllocError, Global};
 use task_ast::Program;
 use task_parser::{Kind, Token};
+use text_pieces::Piece::{Number, Word};
+use text_pieces::push_pieces;
 use text_places::bytes_of;
 
 /// The token that is shown, by its number, if one is; and that of the name which a blame is about, where it stands in another
@@ -75,23 +76,38 @@ impl Around {
         self.before = Some(kind);
     }
 
-    // Whether a statement begins with this token: `}`, `else` and `var` begin none.
-    fn begins_statement(&self, kind: Kind) -> bool {
-        let is_after = match self.before {
+    // Whether a `;`, `{` or `}` stands before.
+    fn follows_end(&self) -> bool {
+        match self.before {
             Some(before) => is_end(before),
             None => false,
-        };
-        self.blocks > 0 && is_after && !matches!(kind, Kind::Mark(5) | Kind::Word(11 | 8))
+        }
+    }
+
+    // Whether a statement begins with this token: `}`, `else` and `var` begin none.
+    fn begins_statement(&self, kind: Kind) -> bool {
+        self.blocks > 0 && self.follows_end() && !matches!(kind, Kind::Mark(5) | Kind::Word(11 | 8))
+    }
+
+    // Whether this token is a name outside of blocks and lists.
+    fn is_outside(&self, kind: Kind) -> bool {
+        self.blocks == 0 && !self.listing && kind == Kind::Name
     }
 
     // Whether this token is a name in the space. `lock`, `barrier`, `record`, `feed` and `task` declare, and `by` names an array.
     fn is_in(&self, space: Space, kind: Kind) -> bool {
-        let outside = self.blocks == 0 && !self.listing && kind == Kind::Name;
         match space {
-            Space::Program => outside && matches!(self.before, Some(Kind::Word(0 | 2 | 3 | 6 | 7))),
+            Space::Program => {
+                self.is_outside(kind) && matches!(self.before, Some(Kind::Word(0 | 2 | 3 | 6 | 7)))
+            }
             Space::Task => self.listing && is_name(kind),
-            Space::Array => outside && matches!(self.before, Some(Kind::Word(4))),
+            Space::Array => self.is_outside(kind) && self.before == Some(Kind::Word(4)),
         }
+    }
+
+    // Whether this token is the name in its space.
+    fn declares(&self, program: &[u8], token: &Token, wanted: Wanted<'_>) -> bool {
+        self.is_in(wanted.space, token.kind) && spells(program, token, wanted)
     }
 }
 
@@ -109,16 +125,38 @@ fn bare(bytes: &[u8]) -> &[u8] {
     }
 }
 
+impl<'a> Wanted<'a> {
+    // A name of a head or a task.
+    fn of_program(name: &'a Name) -> Wanted<'a> {
+        Wanted {
+            space: Space::Program,
+            dollar: false,
+            name: name.as_slice(),
+            again: false,
+        }
+    }
+
+    // Whether the names before this token stand in another space: those of another task.
+    fn begins_at(&self, kind: Kind) -> bool {
+        self.space == Space::Task && kind == Kind::Word(7)
+    }
+
+    // Whether this is the name itself, where such a name was seen before or not.
+    fn is_at(&self, token: &Token, line: u32, seen: bool) -> bool {
+        token.line == line && (seen || !self.again)
+    }
+}
+
 // The first token of the line that is the name in its space.
 fn declared(program: &[u8], tokens: &[Token], line: u32, wanted: Wanted<'_>) -> Option<usize> {
     let mut around = Around::new();
     let mut seen = false;
     for (at, token) in tokens.iter().enumerate() {
-        if wanted.space == Space::Task && token.kind == Kind::Word(7) {
+        if wanted.begins_at(token.kind) {
             seen = false;
         }
-        if around.is_in(wanted.space, token.kind) && spells(program, token, wanted) {
-            if token.line == line && (seen || !wanted.again) {
+        if around.declares(program, token, wanted) {
+            if wanted.is_at(token, line, seen) {
                 return Some(at);
             }
             seen = true;
@@ -211,25 +249,42 @@ fn is_whole(blame: &Blame<'_>) -> bool {
 
 // The declaration that a blame is about.
 fn declaration<'a>(blame: &Blame<'a>) -> Option<Wanted<'a>> {
-    let (space, dollar, name, again) = match blame {
-        Blame::NoArray { array } => (Space::Array, false, array.as_slice(), false),
-        Blame::Twice { name, .. } => (Space::Program, false, name.as_slice(), true),
-        Blame::VariableTwice { dollar, name, .. } => (Space::Task, *dollar, name.as_slice(), true),
-        Blame::Return => (Space::Task, true, b"ret".as_slice(), false),
-        Blame::MainTakes => (Space::Program, false, b"main".as_slice(), false),
-        Blame::NoSize { name } | Blame::TooMany { name, .. } => {
-            (Space::Program, false, name.as_slice(), false)
-        }
-        Blame::KeptAtEnd { task, .. } => (Space::Program, false, task.as_slice(), false),
-        Blame::Sizes { cells, .. } => (Space::Program, false, cells.as_slice(), false),
-        _ => return None,
-    };
-    Some(Wanted {
-        space,
-        dollar,
-        name,
-        again,
-    })
+    match blame {
+        Blame::NoArray { array } => Some(Wanted {
+            space: Space::Array,
+            dollar: false,
+            name: array.as_slice(),
+            again: false,
+        }),
+        Blame::Twice { name, .. } => Some(Wanted {
+            space: Space::Program,
+            dollar: false,
+            name: name.as_slice(),
+            again: true,
+        }),
+        Blame::VariableTwice { dollar, name, .. } => Some(Wanted {
+            space: Space::Task,
+            dollar: *dollar,
+            name: name.as_slice(),
+            again: true,
+        }),
+        Blame::Return => Some(Wanted {
+            space: Space::Task,
+            dollar: true,
+            name: b"ret",
+            again: false,
+        }),
+        Blame::MainTakes => Some(Wanted {
+            space: Space::Program,
+            dollar: false,
+            name: b"main",
+            again: false,
+        }),
+        Blame::NoSize { name } | Blame::TooMany { name, .. } => Some(Wanted::of_program(name)),
+        Blame::KeptAtEnd { task, .. } => Some(Wanted::of_program(task)),
+        Blame::Sizes { cells, .. } => Some(Wanted::of_program(cells)),
+        _ => None,
+    }
 }
 
 // The token of a statement that a blame is about: a name of it in the line, or its first.
@@ -277,8 +332,16 @@ pub fn push_apart(
     let Some(token) = tokens.get(subject.apart.unwrap_or(tokens.len())) else {
         return Ok(());
     };
-    push_words(text, b"hint: ", bytes_of(program, token), b" stands in ")?;
-    push_between(text, b"line ", u64::from(token.line), b"\n")
+    push_pieces(
+        text,
+        &[
+            Word(b"hint: "),
+            Word(bytes_of(program, token)),
+            Word(b" stands in line "),
+            Number(u64::from(token.line)),
+            Word(b"\n"),
+        ],
+    )
 }
 
 /// The token that a blame is about in a line, where it is found. The error is that memory is out.

@@ -1,7 +1,12 @@
 // What to write in place of a token that can't stand where it does.
 
 use crate::blocks::Place;
+use crate::cell_hints::INDEX_RULES;
+use crate::head_hints::HEAD_RULES;
+use crate::mark_hints::MARK_RULES;
+use crate::name_hints::NAME_RULES;
 use crate::spots::Spot;
+use crate::statement_hints::{LIST_RULES, OPENING_RULES};
 use crate::tokens::token_number;
 use crate::told_hints::{Hint, push_told};
 use std::alloc::{AllocError, Global};
@@ -10,35 +15,29 @@ use task_parser::{Kind, Token};
 impl<'a> Spot<'a> {
     // What is told of a form.
     fn form_hint(&self) -> Option<&'static [u8]> {
-        if let Some(hint) = self.opening_hint() {
+        if let Some(hint) = self.told(&OPENING_RULES) {
             return Some(hint);
         }
         if let Some(hint) = self.foreign_hint() {
             return Some(hint);
         }
-        if let Some(hint) = self.mark_hint() {
+        if let Some(hint) = self.told(&MARK_RULES) {
             return Some(hint);
         }
-        if let Some(hint) = self.name_hint() {
+        if let Some(hint) = self.told(&NAME_RULES) {
             return Some(hint);
         }
-        if let Some(hint) = self.into_hint() {
+        if let Some(hint) = self.told(&LIST_RULES) {
             return Some(hint);
         }
-        if let Some(hint) = self.list_comma_hint() {
-            return Some(hint);
-        }
-        self.head_hint()
+        self.told(&HEAD_RULES)
     }
 
     fn hint(&self) -> Option<Hint<'a>> {
         if let Some(hint) = self.case_hint() {
             return Some(hint);
         }
-        if let Some(hint) = self.feed_hint() {
-            return Some(Hint::Fixed(hint));
-        }
-        if let Some(hint) = self.index_hint() {
+        if let Some(hint) = self.told(&INDEX_RULES) {
             return Some(Hint::Fixed(hint));
         }
         if let Some(hint) = self.word_hint() {

@@ -2,20 +2,8 @@
 
 use crate::pieces::{push_between, push_hint, push_words};
 use std::alloc::AllocError;
-use task_parser::Kind;
-
-/// A kind of token, and what is told of it.
-pub type Told = (Kind, &'static [u8]);
-
-/// What is told of a kind in a table.
-pub fn told_of(table: &[Told], kind: Kind) -> Option<&'static [u8]> {
-    for (other, told) in table {
-        if *other == kind {
-            return Some(told);
-        }
-    }
-    None
-}
+use text_pieces::Piece::Word;
+use text_pieces::push_pieces;
 
 /// What is told of a token.
 #[derive(Clone, Copy)]
@@ -52,8 +40,16 @@ pub fn push_told(text: &mut Vec<u8>, hint: Hint<'_>) -> Result<(), AllocError> {
         ),
         Hint::Cell(name) => push_words(text, b"hint: a cell of a feed is `", name, b"[i, 0]`\n"),
         Hint::Unknown(name) => {
-            push_words(text, b"hint: `", name, b"` is no word of the language; ")?;
-            push_words(text, b"a variable is set by `", name, b" = e;`\n")
+            push_pieces(
+                text,
+                &[
+                    Word(b"hint: `"),
+                    Word(name),
+                    Word(b"` is no word of the language; a variable is set by `"),
+                    Word(name),
+                    Word(b" = e;`\n"),
+                ],
+            )
         }
         Hint::NoEnd(line) => push_between(
             text,

@@ -2,13 +2,15 @@
 
 use crate::counts::task_named;
 use crate::foreign::value;
-use crate::hints::{name_of, near, near_head, near_task, push_declared, variable};
+use crate::hints::{head_named, name_of, near, near_head, near_task, push_declared, variable};
 use crate::pieces::{push_hint, push_words};
-use crate::spelling::push_name;
+use crate::spelling::dollar;
 use gp_base::Name;
 use rule_blame::Role;
 use std::alloc::AllocError;
 use task_ast::{Head, Param, Program, TaskText};
+use text_pieces::Piece::Word;
+use text_pieces::push_pieces;
 
 // What a head declares.
 fn kind_of(head: &Head) -> &'static [u8] {
@@ -32,45 +34,56 @@ fn record_under<'a>(heads: &'a [Head], array: &Name) -> Option<&'a Name> {
     None
 }
 
-// Appends what a head that stands where another is needed has to do with it.
-fn push_instead(
-    text: &mut Vec<u8>,
-    heads: &[Head],
-    role: Role,
-    head: &Head,
-    name: &Name,
-) -> Result<(), AllocError> {
+// What a head that stands where another is needed has to do with it: words, a name of it, and words.
+type Instead<'a> = (&'static [u8], &'a [u8], &'static [u8]);
+
+fn instead<'a>(heads: &'a [Head], role: Role, head: &'a Head) -> Instead<'a> {
     match (role, head) {
         (Role::LockArray, Head::RecHead { by, .. }) => {
-            push_words(text, b", and stands under the locks ", by.as_slice(), b"")
+            (b", and stands under the locks ", by.as_slice(), b"")
         }
-        (Role::Record, Head::LockHead { .. }) => match record_under(heads, name) {
-            Some(cells) => push_words(
-                text,
-                b", and record ",
-                cells.as_slice(),
-                b" stands under it",
-            ),
-            None => Ok(()),
+        (Role::Record, Head::LockHead { name, .. }) => match record_under(heads, name) {
+            Some(cells) => (b", and record ", cells.as_slice(), b" stands under it"),
+            None => (b"", b"", b""),
         },
-        (Role::Record, Head::FeedHead { .. }) => {
-            push_words(
-                text,
+        (Role::Record, Head::FeedHead { name, .. }) => {
+            (
                 b": `$x = ",
                 name.as_slice(),
                 b"[i, 0];` fetches a cell of it",
             )
         }
-        (Role::Feed, Head::RecHead { .. }) => {
-            push_words(
-                text,
+        (Role::Feed, Head::RecHead { name, .. }) => {
+            (
                 b": `read ",
                 name.as_slice(),
                 b"[i] into $x;` fetches a cell of it",
             )
         }
-        _ => Ok(()),
+        _ => (b"", b"", b""),
     }
+}
+
+// Appends what a head is, where another is needed.
+fn push_head<'a>(
+    text: &mut Vec<u8>,
+    heads: &'a [Head],
+    role: Role,
+    head: &'a Head,
+) -> Result<(), AllocError> {
+    let (before, name, after) = instead(heads, role, head);
+    push_pieces(
+        text,
+        &[
+            Word(b"hint: "),
+            Word(name_of(head).as_slice()),
+            Word(kind_of(head)),
+            Word(before),
+            Word(name),
+            Word(after),
+            Word(b"\n"),
+        ],
+    )
 }
 
 // What is told of a task that stands where this is needed.
@@ -82,16 +95,6 @@ fn told_of_task(role: Role) -> &'static [u8] {
     }
 }
 
-// The first head of a name.
-fn head_named<'a>(heads: &'a [Head], name: &Name) -> Option<&'a Head> {
-    for head in heads {
-        if name_of(head).as_slice() == name.as_slice() {
-            return Some(head);
-        }
-    }
-    None
-}
-
 // Appends what else the name is declared as among the heads and the tasks.
 fn push_other_role(
     text: &mut Vec<u8>,
@@ -101,16 +104,14 @@ fn push_other_role(
 ) -> Result<bool, AllocError> {
     let heads = program.heads.as_slice();
     if let Some(head) = head_named(heads, name) {
-        push_words(text, b"hint: ", name.as_slice(), kind_of(head))?;
-        push_instead(text, heads, role, head, name)?;
-        text.extend_from_slice(b"\n")?;
+        push_head(text, heads, role, head)?;
         return Ok(true);
     }
-    let is_task = task_named(program, name.as_slice()).is_some();
-    if is_task {
-        push_words(text, b"hint: ", name.as_slice(), told_of_task(role))?;
+    if task_named(program, name.as_slice()).is_none() {
+        return Ok(false);
     }
-    Ok(is_task)
+    push_words(text, b"hint: ", name.as_slice(), told_of_task(role))?;
+    Ok(true)
 }
 
 // Whether a variable is among these.
@@ -148,19 +149,22 @@ fn declaring_task<'a>(program: &'a Program, role: Role, name: &Name) -> Option<&
 }
 
 // Appends which other task declares a variable.
-fn push_elsewhere(
+fn push_elsewhere<'a>(
     text: &mut Vec<u8>,
     role: Role,
-    name: &Name,
-    task: &Name,
+    name: &'a Name,
+    task: &'a Name,
 ) -> Result<(), AllocError> {
-    text.extend_from_slice(b"hint: ")?;
-    push_name(text, role, name)?;
-    push_words(
+    push_pieces(
         text,
-        b" is declared in task ",
-        task.as_slice(),
-        b", for that task alone\n",
+        &[
+            Word(b"hint: "),
+            Word(dollar(role)),
+            Word(name.as_slice()),
+            Word(b" is declared in task "),
+            Word(task.as_slice()),
+            Word(b", for that task alone\n"),
+        ],
     )
 }
 
@@ -189,8 +193,16 @@ fn declaring(role: Role) -> (&'static [u8], &'static [u8]) {
 // Appends how a name is declared.
 fn push_declaring(text: &mut Vec<u8>, role: Role, name: &Name) -> Result<(), AllocError> {
     let (before, after) = declaring(role);
-    push_words(text, b"hint: ", before, name.as_slice())?;
-    push_words(text, after, b"\n", b"")
+    push_pieces(
+        text,
+        &[
+            Word(b"hint: "),
+            Word(before),
+            Word(name.as_slice()),
+            Word(after),
+            Word(b"\n"),
+        ],
+    )
 }
 
 /// Appends what to write in place of a name that isn't declared as what its place needs.
@@ -201,18 +213,39 @@ pub fn push_unknown(
     name: &Name,
     task: &Name,
 ) -> Result<(), AllocError> {
-    if let Some(hint) = value(name.as_slice()) {
-        return push_hint(text, hint);
+    match value(name.as_slice()) {
+        Some(hint) => push_hint(text, hint),
+        None => push_undeclared(text, program, role, name, task),
     }
+}
+
+// The same of a name that stands for no value.
+fn push_undeclared(
+    text: &mut Vec<u8>,
+    program: &Program,
+    role: Role,
+    name: &Name,
+    task: &Name,
+) -> Result<(), AllocError> {
     if role == Role::Control && name.as_slice() == b"ret".as_slice() {
         return push_declared(text, Role::Data, name);
     }
     if role != Role::Data && push_other_role(text, program, role, name)? {
         return Ok(());
     }
-    if let Some((found, other)) = near(program, role, name, task) {
-        return push_declared(text, found, other);
+    match near(program, role, name, task) {
+        Some((found, other)) => push_declared(text, found, other),
+        None => push_far(text, program, role, name),
     }
+}
+
+// The same of a name that no other is near.
+fn push_far(
+    text: &mut Vec<u8>,
+    program: &Program,
+    role: Role,
+    name: &Name,
+) -> Result<(), AllocError> {
     if let Some(other) = declaring_task(program, role, name) {
         push_elsewhere(text, role, name, &other.name)?;
     }
