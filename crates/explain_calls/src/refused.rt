@@ -83,19 +83,24 @@ pub fn program_text(alloc: Global, name: &Name, text: &Text) -> Result<Vec<u8>, 
 
 // The number at the end of a line, and what stands before it.
 fn split_number(line: &[u8]) -> (&[u8], u32) {
-    let digits = line
-        .iter()
-        .rev()
-        .take_while(|byte| byte.is_ascii_digit())
-        .count();
-    let at = line.len().saturating_sub(digits);
+    let mut at: usize = 0;
+    let mut next: usize = 0;
     let mut number: u32 = 0;
-    for byte in &line[at..] {
-        number = number
-            .saturating_mul(10)
-            .saturating_add(u32::from(byte.saturating_sub(b'0')));
+    for byte in line {
+        next = next.saturating_add(1);
+        if byte.is_ascii_digit() {
+            number = number
+                .saturating_mul(10)
+                .saturating_add(u32::from(byte.saturating_sub(b'0')));
+        } else {
+            at = next;
+            number = 0;
+        }
     }
-    (&line[..at], number)
+    match line.get(..at) {
+        Some(rest) => (rest, number),
+        None => (line, number),
+    }
 }
 
 // What stands before these last bytes.

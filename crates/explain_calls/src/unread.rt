@@ -7,9 +7,10 @@ use crate::file_names::{folder_of, push_name_hints};
 use crate::refused::program_of;
 use crate::usage::program_of_command;
 use gp_base::{Name, Text};
-use run_views::push_between;
 use std::alloc::{AllocError, Global};
 use task_ast::Head;
+use text_pieces::Piece::{Number, Word};
+use text_pieces::push_pieces;
 
 // A head that names a file: its word, its name, and its line.
 #[derive(Clone, Copy)]
@@ -52,6 +53,30 @@ fn head_naming<'a>(heads: &'a [Head], file: &Name) -> Option<Naming<'a>> {
     None
 }
 
+// Appends that a head of a program names a file, or the call.
+fn push_named<'a>(
+    told: &mut Vec<u8>,
+    program: &'a Name,
+    naming: Option<Naming<'a>>,
+) -> Result<(), AllocError> {
+    let Some(naming) = naming else {
+        return told.extend_from_slice(b"hint: `--faults` names it\n");
+    };
+    push_pieces(
+        told,
+        &[
+            Word(b"hint: line "),
+            Number(u64::from(naming.line)),
+            Word(b" of "),
+            Word(program.as_slice()),
+            Word(b" names it, for "),
+            Word(naming.word),
+            Word(naming.name.as_slice()),
+            Word(b"\n"),
+        ],
+    )
+}
+
 // Appends what names the file in a call of this program with this text.
 fn push_naming(
     alloc: Global,
@@ -62,19 +87,9 @@ fn push_naming(
 ) -> Result<(), AllocError>
     requires { length text.now ≤ MOST_PROGRAM_BYTES }
 {
-    let Some(tree) = program_of(alloc, text.as_slice()) else {
-        return Err(AllocError);
-    };
-    match head_naming(tree.heads.as_slice(), file) {
-        Some(naming) => {
-            push_between(told, b"hint: line ", naming.line, b" of ")?;
-            told.extend_from_slice(program.as_slice())?;
-            told.extend_from_slice(b" names it, for ")?;
-            told.extend_from_slice(naming.word)?;
-            told.extend_from_slice(naming.name.as_slice())?;
-            told.extend_from_slice(b"\n")
-        }
-        None => told.extend_from_slice(b"hint: `--faults` names it\n"),
+    match program_of(alloc, text.as_slice()) {
+        Some(tree) => push_named(told, program, head_naming(tree.heads.as_slice(), file)),
+        None => Err(AllocError),
     }
 }
 
@@ -96,25 +111,35 @@ fn with_hints(alloc: Global, file: &Name, hints: &[u8]) -> Result<Vec<u8>, Alloc
 
 // Appends where a name is looked for, where it does not say so itself.
 fn push_folder(hints: &mut Vec<u8>, file: &Name) -> Result<(), AllocError> {
-    match file.as_slice() {
-        [b'/', ..] => Ok(()),
-        _ => hints.extend_from_slice(
-            b"hint: names are looked for from the folder in which the call is made\n",
-        ),
+    if file.as_slice().starts_with(b"/") {
+        return Ok(());
     }
+    hints.extend_from_slice(
+        b"hint: names are looked for from the folder in which the call is made\n",
+    )
 }
 
 // Appends in which folder a program stands, where it is not the one of the call.
-fn push_program_folder(hints: &mut Vec<u8>, program: &Name, file: &Name) -> Result<(), AllocError> {
-    let folder = folder_of(program.as_slice());
+fn push_program_folder<'a>(
+    hints: &mut Vec<u8>,
+    program: &'a Name,
+    file: &Name,
+) -> Result<(), AllocError> {
+    let program = program.as_slice();
+    let folder = folder_of(program);
     if folder.is_empty() || file.as_slice().starts_with(b"/") {
         return Ok(());
     }
-    hints.extend_from_slice(b"hint: ")?;
-    hints.extend_from_slice(program.as_slice())?;
-    hints.extend_from_slice(b" stands in ")?;
-    hints.extend_from_slice(folder)?;
-    hints.extend_from_slice(b": if its files do too, change into that folder and call it there\n")
+    push_pieces(
+        hints,
+        &[
+            Word(b"hint: "),
+            Word(program),
+            Word(b" stands in "),
+            Word(folder),
+            Word(b": if its files do too, change into that folder and call it there\n"),
+        ],
+    )
 }
 
 // Appends that the name of a program is a command, where it is one.
@@ -122,11 +147,16 @@ fn push_command(hints: &mut Vec<u8>, file: &Name) -> Result<(), AllocError> {
     let Some(of) = program_of_command(file.as_slice()) else {
         return Ok(());
     };
-    hints.extend_from_slice(b"hint: `")?;
-    hints.extend_from_slice(file.as_slice())?;
-    hints.extend_from_slice(b"` is a command of ")?;
-    hints.extend_from_slice(of)?;
-    hints.extend_from_slice(b": after explain stands the name of a program alone\n")
+    push_pieces(
+        hints,
+        &[
+            Word(b"hint: `"),
+            Word(file.as_slice()),
+            Word(b"` is a command of "),
+            Word(of),
+            Word(b": after explain stands the name of a program alone\n"),
+        ],
+    )
 }
 
 /// What is told of the program's file, which could not be read. The error is that memory is out.

@@ -3,8 +3,9 @@ ghost use Rattle.std.specs.Prelude.{IfOk};
 ghost use Rattle.explain_calls.specs.meaning.Fronts.{IsHint};
 
 use gp_base::limits::{MOST_SUBTHREADS, MOST_TURNS, MOST_WORKERS};
-use run_views::push_between;
 use std::alloc::{AllocError, Global};
+use text_pieces::Piece::{Number, Word};
+use text_pieces::push_pieces;
 use text_places::push_shown;
 
 // What stands after an option: a name, a number up to this one, or a crew.
@@ -201,10 +202,23 @@ fn is_option(word: &[u8]) -> bool {
     word.len() > 1 && word[0] == b'-'
 }
 
+// How many bytes stand before the first `=`, or in all where there is none.
+fn name_length(word: &[u8]) -> usize {
+    let mut length: usize = 0;
+    for byte in word {
+        if *byte == b'=' {
+            return length;
+        }
+        length = length.saturating_add(1);
+    }
+    length
+}
+
 // The name of an option, and the value that stands after it in one word.
 fn split_value(word: &[u8]) -> (&[u8], Option<&[u8]>) {
-    match word.iter().position(|byte| *byte == b'=') {
-        Some(at) => (&word[..at], word.get(at.saturating_add(1)..)),
+    let length = name_length(word);
+    match word.get(..length) {
+        Some(name) => (name, word.get(length.saturating_add(1)..)),
         None => (word, None),
     }
 }
@@ -276,6 +290,14 @@ impl Read {
     }
 }
 
+// The words after the first.
+fn words_after(words: &[String]) -> &[String] {
+    match words.get(1..) {
+        Some(after) => after,
+        None => &[],
+    }
+}
+
 // The first of the words after `explain` that is not taken, or what they lack. A command is told of before all others, since what follows it is read
 // by its rules.
 fn first_untaken<'a>(
@@ -291,7 +313,7 @@ fn first_untaken<'a>(
         given: Vec::new(alloc),
         waiting: None,
     };
-    for word in words.iter().skip(1) {
+    for word in words_after(words) {
         let found = read.word(word.as_str().as_bytes())?;
         if found.is_some() {
             return Ok(found);
@@ -312,17 +334,60 @@ fn push_word(
     text.extend_from_slice(after)
 }
 
+// Appends that a word is no option, and the one that is near to it.
+fn push_no_option(
+    text: &mut Vec<u8>,
+    word: &[u8],
+    near: Option<&'static [u8]>,
+) -> Result<(), AllocError> {
+    push_word(text, b"`", word, b"` is no option of explain")?;
+    match near {
+        Some(near) => push_pieces(text, &[Word(b", but `"), Word(near), Word(b"` is")]),
+        None => Ok(()),
+    }
+}
+
+// Appends that an option takes a number up to this one, and not this value.
+fn push_no_number(
+    text: &mut Vec<u8>,
+    option: &[u8],
+    value: &[u8],
+    most: u64,
+) -> Result<(), AllocError> {
+    push_pieces(
+        text,
+        &[
+            Word(b"`"),
+            Word(option),
+            Word(b"` takes a whole number from 1 to "),
+            Number(most),
+            Word(b", and not "),
+        ],
+    )?;
+    push_word(text, b"`", value, b"`")
+}
+
+// Appends that a word is a command of a program.
+fn push_command(text: &mut Vec<u8>, word: &[u8], of: &'static [u8]) -> Result<(), AllocError> {
+    push_word(text, b"`", word, b"` is a command of ")?;
+    let rest = b": explain takes a program right away, and judges the words of `run` alone";
+    push_pieces(text, &[Word(of), Word(rest)])
+}
+
+// What is told after a word that stands where no second program may.
+fn second_program(word: &[u8]) -> &'static [u8] {
+    if word.ends_with(b".csv") {
+        b"` is one word too many: one program is explained, and a head of it names its files, after `from`"
+    } else {
+        b"` is one word too many: one program is explained"
+    }
+}
+
 // Appends why words are not taken.
 fn push_untaken(text: &mut Vec<u8>, untaken: &Option<Untaken<'_>>) -> Result<(), AllocError> {
     match untaken {
         None => text.extend_from_slice(b"these words are not taken"),
-        Some(Untaken::NoOption { word, near }) => {
-            push_word(text, b"`", word, b"` is no option of explain")?;
-            match near {
-                Some(near) => push_word(text, b", but `", near, b"` is"),
-                None => Ok(()),
-            }
-        }
+        Some(Untaken::NoOption { word, near }) => push_no_option(text, word, *near),
         Some(Untaken::Trace) => text.extend_from_slice(
             b"`--trace` is no option of explain, which writes no trace",
         ),
@@ -334,37 +399,15 @@ fn push_untaken(text: &mut Vec<u8>, untaken: &Option<Untaken<'_>>) -> Result<(),
                 value,
                 most,
             },
-        ) => {
-            push_word(text, b"`", option, b"` takes a whole number ")?;
-            push_between(text, b"from 1 to ", *most, b", ")?;
-            push_word(text, b"and not `", value, b"`")
-        }
+        ) => push_no_number(text, option, value, *most),
         Some(Untaken::NoCrew(word)) => push_word(
             text,
             b"`--crew` takes one, wave, board, steal or pipe, and not `",
             word,
             b"`",
         ),
-        Some(Untaken::Command { word, of }) => {
-            push_word(text, b"`", word, b"` is a command of ")?;
-            text.extend_from_slice(of)?;
-            text.extend_from_slice(
-                b": explain takes a program right away, and judges the words of `run` alone",
-            )
-        }
-        Some(Untaken::SecondProgram(word)) => {
-            push_word(
-                text,
-                b"`",
-                word,
-                b"` is one word too many: one program is explained",
-            )?;
-            if word.ends_with(b".csv") {
-                text.extend_from_slice(b", and a head of it names its files, after `from`")
-            } else {
-                Ok(())
-            }
-        }
+        Some(Untaken::Command { word, of }) => push_command(text, word, *of),
+        Some(Untaken::SecondProgram(word)) => push_word(text, b"`", word, second_program(word)),
         Some(Untaken::NoProgram) => text.extend_from_slice(b"the name of a program is missing"),
     }
 }

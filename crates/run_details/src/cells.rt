@@ -30,19 +30,14 @@ pub struct Absent<'a> {
     pub place: usize,
 }
 
-// A cell that a statement names.
-#[derive(Clone, Copy)]
-struct NamedCell<'a> {
-    array: &'a Name,
-    missing: Option<Missing<'a>>,
-}
-
-// The cells so far, and what they are read under.
+// The arrays of the cells so far, the first cell that is not there with how many of its array stand up to it, and what
+// they are read under.
 #[derive(Drop)]
 struct NamedCells<'a, 'e> {
     heads: &'a [Head],
     env: &'e Env,
-    cells: Vec<NamedCell<'a>>,
+    arrays: Vec<&'a Name>,
+    first: Option<(Missing<'a>, usize)>,
 }
 
 // How many cells a lock array or a record of this name has.
@@ -96,20 +91,38 @@ impl<'a, 'e> NamedCells<'a, 'e> {
         }
     }
 
+    // How many cells of an array there are so far.
+    fn count(&self, array: &Name) -> usize {
+        let mut count: usize = 0;
+        for other in &self.arrays {
+            if other.as_slice() == array.as_slice() {
+                count = count.saturating_add(1);
+            }
+        }
+        count
+    }
+
+    // One cell more of an array, and whether it is not there.
+    fn put(&mut self, array: &'a Name, missing: Option<Missing<'a>>) -> Result<(), AllocError> {
+        self.arrays.push(array)?;
+        if let Some(missing) = missing {
+            if self.first.is_none() {
+                self.first = Some((missing, self.count(array)));
+            }
+        }
+        Ok(())
+    }
+
     fn put_indexed(&mut self, array: &'a Name, index: &'a Atom) -> Result<(), AllocError> {
         let missing = self.outside(array, index);
-        self.cells.push(NamedCell { array, missing })?;
-        Ok(())
+        self.put(array, missing)
     }
 
     fn put_in(&mut self, e: &'a Expr) -> Result<(), AllocError> {
         match e {
             Expr::Cell(feed, row, field) => {
                 let missing = self.unfed(e, feed, row, field);
-                self.cells.push(NamedCell {
-                    array: feed,
-                    missing,
-                })?;
+                self.put(feed, missing)?;
                 self.put_in(row)?;
                 self.put_in(field)
             }
@@ -185,27 +198,6 @@ impl<'a, 'e> NamedCells<'a, 'e> {
         }
         Ok(())
     }
-
-    // The first cell from a place on that is not there, and how many of its array stand up to it.
-    fn first_missing(&self, from: usize) -> Option<(Missing<'a>, usize)> {
-        for (number, cell) in self.cells.iter().enumerate().skip(from) {
-            if let Some(missing) = cell.missing {
-                return Some((missing, self.count(cell.array, number)));
-            }
-        }
-        None
-    }
-
-    // How many cells of an array there are up to the cell of this number.
-    fn count(&self, array: &Name, number: usize) -> usize {
-        let mut count: usize = 1;
-        for cell in self.cells.iter().take(number) {
-            if cell.array.as_slice() == array.as_slice() {
-                count = count.saturating_add(1);
-            }
-        }
-        count
-    }
 }
 
 /// The first cell that is not there among those that the statements in a line of a program name before they do anything else.
@@ -219,12 +211,12 @@ pub fn missing_in<'a>(
     let mut cells = NamedCells {
         heads: program.heads.as_slice(),
         env,
-        cells: Vec::new(alloc),
+        arrays: Vec::new(alloc),
+        first: None,
     };
     for task in program.tasks.as_slice() {
-        let from = cells.cells.len();
         cells.put_line(task.body.as_slice(), line)?;
-        if let Some((missing, place)) = cells.first_missing(from) {
+        if let Some((missing, place)) = cells.first {
             return Ok(Some(Absent {
                 task,
                 missing,

@@ -1,17 +1,22 @@
 // How much a run did, and how much of it side by side.
 
+use crate::words::plural;
 use one_thread::Step;
-use run_hints::{at, child_of, push_many, put};
+use run_hints::{at, child_of, put};
 use std::alloc::{AllocError, Global};
 use task_ast::SyncOp;
+use text_pieces::Piece::{Number, Word};
+use text_pieces::push_pieces;
 
 // The levels of subthreads: one more than that of the last of its thread, of each lock that it holds, and of the thread
-// that it joins or whose fork it is. `next` has for each thread, and each lock, the level that comes next.
+// that it joins or whose fork it is. For each thread, and each lock, the level that comes next; how many subthreads each
+// level has; and the most of one level.
 #[derive(Drop)]
 struct Levels {
     threads: Vec<u32>,
     locks: Vec<u32>,
     widths: Vec<u32>,
+    widest: u32,
 }
 
 impl Levels {
@@ -20,6 +25,7 @@ impl Levels {
             threads: Vec::new(alloc),
             locks: Vec::new(alloc),
             widths: Vec::new(alloc),
+            widest: 0,
         }
     }
 
@@ -49,6 +55,7 @@ impl Levels {
             put(&mut self.threads, child.0 as usize, next)?;
         }
         let width = at(&self.widths, level as usize).saturating_add(1);
+        self.widest = self.widest.max(width);
         put(&mut self.widths, level as usize, width)
     }
 }
@@ -59,17 +66,13 @@ fn widest(alloc: Global, order: &[Step]) -> Result<u32, AllocError> {
     for step in order {
         levels.note(step)?;
     }
-    let mut widest = 0;
-    for width in &levels.widths {
-        widest = widest.max(*width);
-    }
-    Ok(widest)
+    Ok(levels.widest)
 }
 
 // How many of these steps begin a thread, and how many take a lock.
-fn counted(order: &[Step]) -> (usize, usize) {
-    let mut threads: usize = 0;
-    let mut locks: usize = 0;
+fn counted(order: &[Step]) -> (u64, u64) {
+    let mut threads: u64 = 0;
+    let mut locks: u64 = 0;
     for step in order {
         match &step.begins.sync {
             SyncOp::Start => threads = threads.saturating_add(1),
@@ -83,13 +86,28 @@ fn counted(order: &[Step]) -> (usize, usize) {
 /// Appends how many subthreads, threads and locks a run had, and the most subthreads of one level. The error is that memory is
 /// out.
 pub fn push_counts(alloc: Global, text: &mut Vec<u8>, order: &[Step]) -> Result<(), AllocError> {
+    let widest = u64::from(widest(alloc, order)?);
+    let count = order.len() as u64;
     let (threads, locks) = counted(order);
-    push_many(text, order.len() as u64, b" subthread")?;
-    text.extend_from_slice(b", ")?;
-    push_many(text, threads as u64, b" thread")?;
-    text.extend_from_slice(b", ")?;
-    push_many(text, locks as u64, b" lock")?;
-    text.extend_from_slice(b" taken; at most ")?;
-    push_many(text, u64::from(widest(alloc, order)?), b" subthread")?;
-    text.extend_from_slice(b" side by side, as threads, locks, forks and joins allow\n")
+    push_pieces(
+        text,
+        &[
+            Number(count),
+            Word(b" subthread"),
+            plural(count),
+            Word(b", "),
+            Number(threads),
+            Word(b" thread"),
+            plural(threads),
+            Word(b", "),
+            Number(locks),
+            Word(b" lock"),
+            plural(locks),
+            Word(b" taken; at most "),
+            Number(widest),
+            Word(b" subthread"),
+            plural(widest),
+            Word(b" side by side, as threads, locks, forks and joins allow\n"),
+        ],
+    )
 }

@@ -2,35 +2,56 @@
 
 use call_cases::Request;
 use gp_base::Name;
-use run_views::push_between;
 use std::alloc::AllocError;
 use task_ast::{Head, natural};
+use text_pieces::Piece::{Number, Word};
+use text_pieces::push_pieces;
+
+// How many of these cells have another value than 0, and from which on all have 0.
+fn given_in(cells: &[i64]) -> (u64, u64) {
+    let mut given: u64 = 0;
+    let mut from: u64 = 0;
+    let mut next: u64 = 0;
+    for value in cells {
+        next = next.saturating_add(1);
+        if *value != 0 {
+            given = given.saturating_add(1);
+            from = next;
+        }
+    }
+    (given, from)
+}
 
 // Appends how many of the cells of a record have another value than 0 by its file, and from which cell on all begin with 0,
 // if any do.
-fn push_cells(
+fn push_cells<'a>(
     text: &mut Vec<u8>,
-    name: &Name,
-    file: &Name,
+    name: &'a Name,
+    file: &'a Name,
     cells: &[i64],
 ) -> Result<(), AllocError> {
-    let last = cells.iter().rev().take_while(|value| **value == 0).count();
-    if last == 0 {
+    let (given, from) = given_in(cells);
+    let count = cells.len() as u64;
+    if from == count {
         return Ok(());
     }
-    let given = cells.iter().filter(|value| **value != 0).count();
-    text.extend_from_slice(b"hint: ")?;
-    text.extend_from_slice(file.as_slice())?;
-    push_between(text, b" gives ", given, b" of the ")?;
-    push_between(text, b"", cells.len(), b" cells of record ")?;
-    text.extend_from_slice(name.as_slice())?;
-    text.extend_from_slice(b" another value than 0; from ")?;
-    text.extend_from_slice(name.as_slice())?;
-    push_between(
+    push_pieces(
         text,
-        b"[",
-        cells.len().saturating_sub(last),
-        b"] on they begin with 0: they have no row, or one that says 0\n",
+        &[
+            Word(b"hint: "),
+            Word(file.as_slice()),
+            Word(b" gives "),
+            Number(given),
+            Word(b" of the "),
+            Number(count),
+            Word(b" cells of record "),
+            Word(name.as_slice()),
+            Word(b" another value than 0; from "),
+            Word(name.as_slice()),
+            Word(b"["),
+            Number(from),
+            Word(b"] on they begin with 0: they have no row, or one that says 0\n"),
+        ],
     )
 }
 

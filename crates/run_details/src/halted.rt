@@ -1,15 +1,15 @@
 // A run that has halted before its end, and the loops of its threads.
 
 use call_cases::Request;
-use gp_base::ThreadNo;
+use gp_base::{Name, ThreadNo};
 use one_thread::{Standing, Step, run_reckoned};
 use run_counts::Loop;
 use run_hints::{
-    Branches, LoopTurns, Place, Tasks, loops_at, push_conditions, push_forked, push_names,
-    push_settled,
+    Branches, LoopTurns, Place, Tasks, is_given, loops_at, push_bound, push_conditions,
+    push_forked, push_names, push_settled,
 };
 use std::alloc::{AllocError, Global};
-use task_ast::Program;
+use task_ast::{Env, Program, TaskText};
 
 /// A run that has halted before its end: its subthreads, the tasks of its threads, and where these stand.
 #[derive(Clone, Copy)]
@@ -56,6 +56,19 @@ impl<'a> Halted<'a> {
         Ok(turns)
     }
 
+    /// Appends what `push_values_of` does for these loops, with the turns of a thread in them, and answers the same. The error
+    /// is that memory is out.
+    pub fn push_turned(
+        &self,
+        alloc: Global,
+        text: &mut Vec<u8>,
+        thread: ThreadNo,
+        loops: &[Loop<'a>],
+    ) -> Result<bool, AllocError> {
+        let turned = self.turned(alloc, thread, loops)?;
+        self.push_values_of(alloc, text, thread, &turned)
+    }
+
     /// Appends the control variables of a thread. The error is that memory is out.
     pub fn push_names_of(&self, text: &mut Vec<u8>, thread: ThreadNo) -> Result<(), AllocError> {
         match self.standing.names.get(thread.0 as usize) {
@@ -92,6 +105,24 @@ impl<'a> Halted<'a> {
         thread: ThreadNo,
     ) -> Result<(), AllocError> {
         push_forked(alloc, text, self.program(), self.order, self.tasks, thread)
+    }
+
+    /// Appends what bounds these control variables, which a thread's task names in a line, and how the thread was forked, if
+    /// its arguments may be the cause. The error is that memory is out.
+    pub fn push_given<'b>(
+        &self,
+        alloc: Global,
+        text: &mut Vec<u8>,
+        named: (&'b TaskText, ThreadNo, u32),
+        names: &[&'b Name],
+        env: &Env,
+    ) -> Result<(), AllocError> {
+        let (task, thread, line) = named;
+        push_bound(alloc, text, task, line, names, env)?;
+        if is_given(alloc, task, line, names)? {
+            return self.push_forked(alloc, text, thread);
+        }
+        Ok(())
     }
 
     /// Appends which conditions left forks out, and how often. The run is made once more for them, where there are some. The

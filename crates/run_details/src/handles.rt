@@ -1,9 +1,10 @@
 // Control variables that have the numbers of threads.
 
 use gp_base::Name;
-use run_views::push_between;
 use std::alloc::AllocError;
 use task_ast::{Atom, Stmt, What};
+use text_pieces::Piece::{Number, Word};
+use text_pieces::push_pieces;
 
 // The line of the first fork among these statements whose thread's number a variable gets.
 fn fork_line(block: &[Stmt], name: &Name) -> Option<u32> {
@@ -33,14 +34,17 @@ pub fn push_handle(text: &mut Vec<u8>, body: &[Stmt], index: &Atom) -> Result<()
     let Some(line) = fork_line(body, name) else {
         return Ok(());
     };
-    text.extend_from_slice(b"hint: ")?;
-    text.extend_from_slice(name.as_slice())?;
-    push_between(
+    let name = name.as_slice();
+    push_pieces(
         text,
-        b" is the number of a thread, by the fork in line ",
-        line,
-        b"; what the thread gives back is an index after `join ",
-    )?;
-    text.extend_from_slice(name.as_slice())?;
-    text.extend_from_slice(b" into $x; settle $x into c;`\n")
+        &[
+            Word(b"hint: "),
+            Word(name),
+            Word(b" is the number of a thread, by the fork in line "),
+            Number(u64::from(line)),
+            Word(b"; what the thread gives back is an index after `join "),
+            Word(name),
+            Word(b" into $x; settle $x into c;`\n"),
+        ],
+    )
 }

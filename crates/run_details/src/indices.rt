@@ -4,14 +4,45 @@ use crate::cells::{Absent, Missing, missing_in};
 use crate::halted::Halted;
 use crate::handles::push_handle;
 use crate::sources::{LookedFor, MarkedPlace, spot_of, tokens_of};
+use crate::words::plural;
 use call_cases::{Request, copied_feeds};
 use gp_base::{Feed, Name, Seq, ThreadNo};
 use one_thread::Standing;
-use run_hints::{is_given, push_bound, push_many, push_names, put_controls};
-use run_views::{push_between, push_labelled};
+use run_hints::{push_names, put_controls};
+use run_views::push_between;
 use std::alloc::{AllocError, Global};
 use task_ast::{Atom, Env, Expr, Head, Stmt, eval_d};
+use text_pieces::Piece::{Number, Signed, Word};
+use text_pieces::push_pieces;
 use text_places::push_marked;
+
+// Appends a cell of an array, and the value of its index.
+fn push_cell<'a>(
+    text: &mut Vec<u8>,
+    array: &'a Name,
+    index: &'a Atom,
+    at: i64,
+) -> Result<(), AllocError> {
+    let array = array.as_slice();
+    match index {
+        Atom::Num(_) => push_pieces(text, &[Word(array), Word(b"["), Signed(at), Word(b"]")]),
+        Atom::Var(name) => {
+            let name = name.as_slice();
+            push_pieces(
+                text,
+                &[
+                    Word(array),
+                    Word(b"["),
+                    Word(name),
+                    Word(b"] with "),
+                    Word(name),
+                    Word(b" = "),
+                    Signed(at),
+                ],
+            )
+        }
+    }
+}
 
 // Appends a cell of an array that is not there, and how many the array has.
 fn push_outside(
@@ -21,35 +52,51 @@ fn push_outside(
     at: i64,
     size: i64,
 ) -> Result<(), AllocError> {
-    text.extend_from_slice(array.as_slice())?;
-    match index {
-        Atom::Num(value) => push_between(text, b"[", *value, b"]")?,
-        Atom::Var(name) => {
-            text.extend_from_slice(b"[")?;
-            text.extend_from_slice(name.as_slice())?;
-            text.extend_from_slice(b"] with ")?;
-            text.extend_from_slice(name.as_slice())?;
-            push_labelled(text, b" = ", at)?;
-        }
-    }
-    text.extend_from_slice(b"; ")?;
-    text.extend_from_slice(array.as_slice())?;
-    text.extend_from_slice(b" has ")?;
-    push_many(text, size.unsigned_abs(), b" cell")?;
-    push_between(text, b", 0 to ", size.saturating_sub(1), b"\n")
+    push_cell(text, array, index, at)?;
+    let count = size.unsigned_abs();
+    push_pieces(
+        text,
+        &[
+            Word(b"; "),
+            Word(array.as_slice()),
+            Word(b" has "),
+            Number(count),
+            Word(b" cell"),
+            plural(count),
+            Word(b", 0 to "),
+            Signed(size.saturating_sub(1)),
+            Word(b"\n"),
+        ],
+    )
 }
 
 // Appends how many rows and fields a feed has.
 fn push_size(text: &mut Vec<u8>, feed: &Feed) -> Result<(), AllocError> {
-    let (rows, fields) = (feed.rows(), feed.fields);
-    text.extend_from_slice(b" has ")?;
-    push_many(text, rows.unsigned_abs(), b" row")?;
-    if 0 < rows {
-        push_labelled(text, b", 0 to ", rows.saturating_sub(1))?;
-    }
-    text.extend_from_slice(b", of ")?;
-    push_many(text, u64::from(fields), b" field")?;
-    push_labelled(text, b", 0 to ", fields.saturating_sub(1))
+    let rows = feed.rows();
+    let count = rows.unsigned_abs();
+    let (to, last) = if 0 < rows {
+        (Word(b", 0 to "), Signed(rows.saturating_sub(1)))
+    } else {
+        (Word(b""), Word(b""))
+    };
+    let fields = u64::from(feed.fields);
+    push_pieces(
+        text,
+        &[
+            Word(b" has "),
+            Number(count),
+            Word(b" row"),
+            plural(count),
+            to,
+            last,
+            Word(b", of "),
+            Number(fields),
+            Word(b" field"),
+            plural(fields),
+            Word(b", 0 to "),
+            Number(fields.saturating_sub(1)),
+        ],
+    )
 }
 
 // Appends a cell of a feed that is not there.
@@ -60,17 +107,40 @@ fn push_no_cell(
     row: &Expr,
     field: &Expr,
 ) -> Result<(), AllocError> {
-    let (row, field) = (eval_d(row, env), eval_d(field, env));
-    text.extend_from_slice(feed.as_slice())?;
-    push_labelled(text, b"[", row.unwrap_or(0))?;
-    push_between(text, b", ", field.unwrap_or(0), b"]; ")?;
-    text.extend_from_slice(feed.as_slice())?;
+    let row = eval_d(row, env).unwrap_or(0);
+    let field = eval_d(field, env).unwrap_or(0);
+    let name = feed.as_slice();
+    push_pieces(
+        text,
+        &[
+            Word(name),
+            Word(b"["),
+            Signed(row),
+            Word(b", "),
+            Signed(field),
+            Word(b"]; "),
+            Word(name),
+        ],
+    )?;
     for pair in env.feeds.as_slice() {
-        if pair.0.as_slice() == feed.as_slice() {
+        if pair.0.as_slice() == name {
             push_size(text, &pair.1)?;
         }
     }
     text.extend_from_slice(b"\n")
+}
+
+// Appends a cell that is not there.
+fn push_absent(text: &mut Vec<u8>, env: &Env, missing: Missing<'_>) -> Result<(), AllocError> {
+    match missing {
+        Missing::Cell {
+            array,
+            index,
+            at,
+            size,
+        } => push_outside(text, array, index, at, size),
+        Missing::Fed { feed, row, field } => push_no_cell(text, env, feed, row, field),
+    }
 }
 
 // The control variables that the index of a cell names.
@@ -90,6 +160,38 @@ fn controls_of<'a>(alloc: Global, missing: Missing<'a>) -> Result<Vec<&'a Name>,
     Ok(names)
 }
 
+// The array of a cell that is not there.
+fn array_of<'a>(missing: Missing<'a>) -> &'a Name {
+    match missing {
+        Missing::Cell { array, .. } => array,
+        Missing::Fed { feed, .. } => feed,
+    }
+}
+
+// Where a cell stands that a statement in a line names, and that is not there.
+fn spot_in(
+    alloc: Global,
+    source: &[u8],
+    line: u32,
+    found: &Absent<'_>,
+) -> Result<Option<MarkedPlace>, AllocError> {
+    let tokens = tokens_of(alloc, source)?;
+    let sought = LookedFor::Cell(array_of(found.missing));
+    Ok(spot_of(source, &tokens, line, sought, Some(found.place)))
+}
+
+// Appends the line of a place before other words, if it is another one than this.
+fn push_other_line(
+    text: &mut Vec<u8>,
+    spot: Option<MarkedPlace>,
+    line: u32,
+) -> Result<(), AllocError> {
+    match spot {
+        Some(spot) if spot.line != line => push_between(text, b"in line ", spot.line, b": "),
+        _ => Ok(()),
+    }
+}
+
 // Appends a line of a program with a mark under a place in it.
 fn push_spot(
     text: &mut Vec<u8>,
@@ -102,25 +204,6 @@ fn push_spot(
     }
 }
 
-// Where a cell of an array stands that a statement in a line names, and its line before other words, if that is another one.
-fn push_line_of(
-    alloc: Global,
-    text: &mut Vec<u8>,
-    source: &[u8],
-    line: u32,
-    array: &Name,
-    place: usize,
-) -> Result<Option<MarkedPlace>, AllocError> {
-    let tokens = tokens_of(alloc, source)?;
-    let spot = spot_of(source, &tokens, line, LookedFor::Cell(array), Some(place));
-    if let Some(spot) = spot {
-        if spot.line != line {
-            push_between(text, b"in line ", spot.line, b": ")?;
-        }
-    }
-    Ok(spot)
-}
-
 // Appends a cell that is not there, the line of the program that names it, and where its index comes from, if that is a
 // thread's number.
 fn push_missing(
@@ -131,24 +214,28 @@ fn push_missing(
     line: u32,
     found: &Absent<'_>,
 ) -> Result<(), AllocError> {
+    let spot = spot_in(alloc, source, line, found)?;
+    push_other_line(text, spot, line)?;
+    push_absent(text, env, found.missing)?;
+    push_spot(text, source, spot)?;
     match found.missing {
-        Missing::Cell {
-            array,
-            index,
-            at,
-            size,
-        } => {
-            let spot = push_line_of(alloc, text, source, line, array, found.place)?;
-            push_outside(text, array, index, at, size)?;
-            push_spot(text, source, spot)?;
-            push_handle(text, found.task.body.as_slice(), index)
-        }
-        Missing::Fed { feed, row, field } => {
-            let spot = push_line_of(alloc, text, source, line, feed, found.place)?;
-            push_no_cell(text, env, feed, row, field)?;
-            push_spot(text, source, spot)
-        }
+        Missing::Cell { index, .. } => push_handle(text, found.task.body.as_slice(), index),
+        Missing::Fed { .. } => Ok(()),
     }
+}
+
+// Puts the feed that comes next by the name of its head, where there is one.
+fn put_feed(
+    alloc: Global,
+    named: &mut Seq<(Name, Feed)>,
+    name: &Name,
+    feeds: &mut Vec<Feed>,
+) -> Result<(), AllocError> {
+    let name = name.copied(alloc)?;
+    if let Some(feed) = feeds.pop() {
+        named.push((name, feed))?;
+    }
+    Ok(())
 }
 
 /// The feeds of a run by their names. The error is that memory is out.
@@ -162,9 +249,7 @@ pub fn named_feeds(
     let mut named = Seq::new(alloc);
     for head in heads {
         if let Head::FeedHead { name, .. } = head {
-            if let Some(feed) = feeds.pop() {
-                named.push((name.copied(alloc)?, feed))?;
-            }
+            put_feed(alloc, &mut named, name, &mut feeds)?;
         }
     }
     Ok(named)
@@ -201,6 +286,24 @@ pub fn env_of(
     })
 }
 
+// Appends which cell is not there that a thread names in a line under this environment, that line, and how the thread was
+// forked, if its arguments may be the cause.
+fn push_found(
+    alloc: Global,
+    text: &mut Vec<u8>,
+    halted: Halted<'_>,
+    source: &[u8],
+    env: &Env,
+    line: u32,
+) -> Result<(), AllocError> {
+    let Some(found) = missing_in(alloc, halted.program(), env, line)? else {
+        return Ok(());
+    };
+    push_missing(alloc, text, env, source, line, &found)?;
+    let names = controls_of(alloc, found.missing)?;
+    halted.push_given(alloc, text, (found.task, env.me, line), &names, env)
+}
+
 /// Appends which cell is not there that a thread names in a line of a program with this text, that line, how the thread was
 /// forked, if its arguments may be the cause, and its control variables. The error is that memory is out.
 pub fn push_index(
@@ -212,13 +315,6 @@ pub fn push_index(
     line: u32,
 ) -> Result<(), AllocError> {
     let env = env_of(alloc, halted.request, halted.standing, thread)?;
-    if let Some(found) = missing_in(alloc, halted.program(), &env, line)? {
-        push_missing(alloc, text, &env, source, line, &found)?;
-        let names = controls_of(alloc, found.missing)?;
-        push_bound(alloc, text, found.task, line, &names, &env)?;
-        if is_given(alloc, found.task, line, &names)? {
-            halted.push_forked(alloc, text, thread)?;
-        }
-    }
+    push_found(alloc, text, halted, source, &env, line)?;
     push_names(text, thread, env.names.as_slice())
 }

@@ -15,6 +15,7 @@ mod slips;
 mod sources;
 mod spent;
 mod strikes;
+mod words;
 
 pub use counts::push_counts;
 pub use details::push_stuck_details;

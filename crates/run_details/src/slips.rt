@@ -7,11 +7,13 @@ use call_cases::Request;
 use gp_base::{Name, Seq, ThreadNo};
 use one_thread::Step;
 use run_counts::{Counting, Slip};
-use run_hints::{Tasks, controls_of, push_times, push_values};
-use run_views::{push_between, push_labelled};
+use run_hints::{Tasks, controls_of, push_values};
+use run_views::push_labelled;
 use std::alloc::{AllocError, Global};
 use task_ast::{Env, Expr, Program, TaskText, eval_d};
 use task_parser::Token;
+use text_pieces::Piece::{Number, Signed, Word};
+use text_pieces::push_pieces;
 use text_places::push_marked;
 
 /// A run of a program with this text, what was noted of it, and the tasks of its threads.
@@ -39,6 +41,19 @@ struct Slipped<'a> {
     slip: &'a Slip,
 }
 
+// Puts the slip of a line after others, where there was one.
+fn put_slip<'a>(
+    all: &mut Vec<Slipped<'a>>,
+    line: u32,
+    way: Inexact,
+    slip: &'a Slip,
+) -> Result<(), AllocError> {
+    if slip.times > 0 {
+        all.push(Slipped { line, way, slip })?;
+    }
+    Ok(())
+}
+
 // The control variables of a task with these values.
 fn named_values(
     alloc: Global,
@@ -46,30 +61,76 @@ fn named_values(
     values: &[i64],
 ) -> Result<Seq<(Name, i64)>, AllocError> {
     let mut named = Seq::new(alloc);
-    for (name, value) in controls_of(alloc, task)?.iter().zip(values) {
-        named.push((name.copied(alloc)?, *value))?;
+    let mut place: usize = 0;
+    for name in &controls_of(alloc, task)? {
+        if let Some(value) = values.get(place) {
+            named.push((name.copied(alloc)?, *value))?;
+        }
+        place = place.saturating_add(1);
     }
     Ok(named)
 }
 
-// Appends the cell of a feed by which an operator divides, where that is one, and 0.
+// What an operator surely divides by, where it does.
+fn divisor_of<'a>(operator: Option<Operator<'a>>, way: Inexact) -> Option<&'a Expr> {
+    let operator = operator?;
+    if operator.is_sure && way == Inexact::Divided {
+        operator.right
+    } else {
+        None
+    }
+}
+
+// Appends the cell of a feed by which an operator divides, where that is one, and 0; and the end of the line.
 fn push_divisor(
     text: &mut Vec<u8>,
-    operator: &Operator<'_>,
+    operator: Option<Operator<'_>>,
     way: Inexact,
     env: &Env,
 ) -> Result<(), AllocError> {
-    let (true, Inexact::Divided, Some(Expr::Cell(feed, row, field))) = (
-        operator.is_sure,
-        way,
-        operator.right,
-    ) else {
-        return Ok(());
+    let Some(Expr::Cell(feed, row, field)) = divisor_of(operator, way) else {
+        return text.extend_from_slice(b"\n");
     };
-    text.extend_from_slice(b"; ")?;
-    text.extend_from_slice(feed.as_slice())?;
-    push_labelled(text, b"[", eval_d(row, env).unwrap_or(0))?;
-    push_between(text, b", ", eval_d(field, env).unwrap_or(0), b"] is 0")
+    let row = eval_d(row, env).unwrap_or(0);
+    let field = eval_d(field, env).unwrap_or(0);
+    push_pieces(
+        text,
+        &[
+            Word(b"; "),
+            Word(feed.as_slice()),
+            Word(b"["),
+            Signed(row),
+            Word(b", "),
+            Signed(field),
+            Word(b"] is 0\n"),
+        ],
+    )
+}
+
+// Appends a line whose arithmetic was not exact, how often, and at which position first.
+fn push_slipped(text: &mut Vec<u8>, slipped: Slipped<'_>) -> Result<(), AllocError> {
+    let Slipped { line, way, slip } = slipped;
+    let what: &[u8] = match way {
+        Inexact::Left => b": arithmetic left 64 bits, ",
+        Inexact::Divided => b": arithmetic divided by 0, ",
+    };
+    let (count, times) = if slip.times == 1 {
+        (Word(b"once"), Word(b""))
+    } else {
+        (Number(slip.times), Word(b" times"))
+    };
+    push_pieces(
+        text,
+        &[
+            Word(b"line "),
+            Number(u64::from(line)),
+            Word(what),
+            count,
+            times,
+            Word(b", first at position "),
+            Number(u64::from(slip.first)),
+        ],
+    )
 }
 
 impl<'a> Noted<'a> {
@@ -88,8 +149,8 @@ impl<'a> Noted<'a> {
         self.counting.values.get(slip.kept?)
     }
 
-    // Appends where a slip was first: its position, the thread, and its control variables there, which the environment gets.
-    // Answers whether they are known.
+    // Appends the thread of a slip when it was first, and its control variables there, which the environment gets. Answers
+    // whether they are known.
     fn push_first(
         &self,
         alloc: Global,
@@ -97,7 +158,6 @@ impl<'a> Noted<'a> {
         slip: &Slip,
         env: &mut Env,
     ) -> Result<bool, AllocError> {
-        push_labelled(text, b", first at position ", slip.first)?;
         let Some((thread, task)) = self.thread_of(slip) else {
             return Ok(false);
         };
@@ -117,7 +177,7 @@ impl<'a> Noted<'a> {
         text: &mut Vec<u8>,
         tokens: &[Token],
         line: u32,
-        operator: &Option<Operator<'_>>,
+        operator: Option<Operator<'_>>,
     ) -> Result<(), AllocError> {
         let number = match operator {
             Some(operator) => Some(operator.number),
@@ -138,44 +198,22 @@ impl<'a> Noted<'a> {
         shown: &mut Shown,
     ) -> Result<(), AllocError> {
         let Slipped { line, way, slip } = slipped;
-        push_between(
-            text,
-            b"line ",
-            line,
-            match way {
-                Inexact::Left => b": arithmetic left 64 bits, ".as_slice(),
-                Inexact::Divided => b": arithmetic divided by 0, ".as_slice(),
-            },
-        )?;
-        push_times(text, slip.times)?;
+        push_slipped(text, slipped)?;
         let is_known = self.push_first(alloc, text, slip, &mut shown.env)?;
         let env = if is_known { Some(&shown.env) } else { None };
         let operator = slipping_in(alloc, self.program(), line, way, env)?;
-        if let Some(operator) = &operator {
-            push_divisor(text, operator, way, &shown.env)?;
-        }
-        text.extend_from_slice(b"\n")?;
-        self.push_line(text, &shown.tokens, line, &operator)
+        push_divisor(text, operator, way, &shown.env)?;
+        self.push_line(text, &shown.tokens, line, operator)
     }
 
     // The lines whose arithmetic was not exact, in their order.
     fn slipped(&self, alloc: Global) -> Result<Vec<Slipped<'a>>, AllocError> {
         let mut all = Vec::new(alloc);
         let mut line: u32 = 0;
-        for (left, divided) in self.counting.left.iter().zip(&self.counting.divided) {
-            if left.times > 0 {
-                all.push(Slipped {
-                    line,
-                    way: Inexact::Left,
-                    slip: left,
-                })?;
-            }
-            if divided.times > 0 {
-                all.push(Slipped {
-                    line,
-                    way: Inexact::Divided,
-                    slip: divided,
-                })?;
+        for left in &self.counting.left {
+            put_slip(&mut all, line, Inexact::Left, left)?;
+            if let Some(divided) = self.counting.divided.get(line as usize) {
+                put_slip(&mut all, line, Inexact::Divided, divided)?;
             }
             line = line.saturating_add(1);
         }

@@ -37,11 +37,14 @@ fn ends_one(token: &Token) -> bool {
 
 // Whether the first token of a line begins a statement or a task, so that none goes on into the line.
 fn begins_anew(tokens: &[Token], line: u32) -> bool {
-    let before = tokens.iter().take_while(|token| token.line < line).count();
-    match tokens.get(before.saturating_sub(1)) {
-        Some(token) => before == 0 || ends_one(token),
-        None => true,
+    let mut begins = true;
+    for token in tokens {
+        if token.line >= line {
+            return begins;
+        }
+        begins = ends_one(token);
     }
+    begins
 }
 
 // Whether a token is `+`, `-`, `*`, `/` or `%`.
@@ -72,16 +75,20 @@ fn nth_spot(
         return None;
     }
     let mut count: usize = 0;
-    for (token, next) in tokens.iter().zip(tokens.iter().skip(1)) {
-        if token.line >= line && sought.is_at(source, token, next) {
-            count = count.saturating_add(1);
-            if count == number {
-                return Some(MarkedPlace {
-                    at: token.from as usize,
-                    line: token.line,
-                });
+    let mut last: Option<&Token> = None;
+    for next in tokens {
+        if let Some(token) = last {
+            if token.line >= line && sought.is_at(source, token, next) {
+                count = count.saturating_add(1);
+                if count == number {
+                    return Some(MarkedPlace {
+                        at: token.from as usize,
+                        line: token.line,
+                    });
+                }
             }
         }
+        last = Some(next);
     }
     None
 }

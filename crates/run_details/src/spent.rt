@@ -1,15 +1,17 @@
 // What is told of a run that has spent its limits, after its front.
 
 use crate::halted::Halted;
+use crate::words::plural;
 use call_cases::Request;
 use gp_base::limits::{MOST_SUBTHREADS, MOST_TURNS};
 use gp_base::{End, Limits, ThreadNo};
 use one_thread::{PlainRun, Step, run_plain, stand_before};
 use run_counts::{Counting, Loop};
-use run_hints::{Place, Tasks, busiest, push_ended_threads, push_loops, push_many, push_outer};
-use run_views::{push_between, push_labelled};
+use run_hints::{Place, Tasks, busiest, push_ended_threads, push_loops, push_outer};
 use std::alloc::{AllocError, Global};
 use task_ast::SyncOp;
+use text_pieces::Piece::{Number, Word};
+use text_pieces::push_pieces;
 
 impl<'a> Halted<'a> {
     // Appends that a subthread took all loop turns that it may, the last in the loop in a line.
@@ -21,28 +23,45 @@ impl<'a> Halted<'a> {
         line: u32,
     ) -> Result<(), AllocError> {
         let given = self.request.asked.limits.turns;
-        push_labelled(text, b"thread ", step.thread.0)?;
-        push_labelled(text, b" took ", given)?;
-        text.extend_from_slice(if given == 1 {
-            b" loop turn"
-        } else {
-            b" loop turns"
-        })?;
-        push_labelled(text, b" in one subthread, last at the loop in line ", line)?;
-        let loops = self.loops_of(alloc, step.thread, Place::Loop(line))?;
-        push_outer(text, &loops)?;
-        text.extend_from_slice(b"\n")?;
-        let mut turned = self.turned(alloc, step.thread, &loops)?;
-        turned.drop_last_turn();
-        self.push_values_of(alloc, text, step.thread, &turned)?;
+        push_pieces(
+            text,
+            &[
+                Word(b"thread "),
+                Number(u64::from(step.thread.0)),
+                Word(b" took "),
+                Number(given),
+                Word(b" loop turn"),
+                plural(given),
+                Word(b" in one subthread, last at the loop in line "),
+                Number(u64::from(line)),
+            ],
+        )?;
+        self.push_around(alloc, text, step.thread, line)?;
         push_limit(
             text,
-            b"--turns",
+            b"hint: --turns",
             given,
             MOST_TURNS,
-            b"a loop",
-            b"a long loop that ends is cut by a barrier of one\n",
+            b", for a loop that ends\n",
+            b": a long loop that ends is cut by a barrier of one\n",
         )
+    }
+
+    // Appends the loops around that in a line, and the control variables of a thread that began a turn too many there.
+    fn push_around(
+        &self,
+        alloc: Global,
+        text: &mut Vec<u8>,
+        thread: ThreadNo,
+        line: u32,
+    ) -> Result<(), AllocError> {
+        let loops = self.loops_of(alloc, thread, Place::Loop(line))?;
+        push_outer(text, &loops)?;
+        text.extend_from_slice(b"\n")?;
+        let mut turned = self.turned(alloc, thread, &loops)?;
+        turned.drop_last_turn();
+        self.push_values_of(alloc, text, thread, &turned)?;
+        Ok(())
     }
 
     // Appends where a thread would begin one subthread more, in which loops.
@@ -52,45 +71,106 @@ impl<'a> Halted<'a> {
         step: &Step,
         loops: &[Loop<'a>],
     ) -> Result<(), AllocError> {
-        push_labelled(text, b"; thread ", step.thread.0)?;
+        let thread = u64::from(step.thread.0);
         if !matches!(step.begins.sync, SyncOp::Start) {
-            push_between(text, b" line ", step.begins.line, b" would begin one more")?;
-            return push_loops(text, loops);
+            let line = u64::from(step.begins.line);
+            push_pieces(
+                text,
+                &[
+                    Word(b"; thread "),
+                    Number(thread),
+                    Word(b" line "),
+                    Number(line),
+                    Word(b" would begin one more"),
+                ],
+            )?;
+            push_loops(text, loops)?;
+            return text.extend_from_slice(b"\n");
         }
-        text.extend_from_slice(b" would begin one more, at the beginning of task ")?;
-        match self.tasks.task_of(self.program(), step.thread) {
-            Some(task) => text.extend_from_slice(task.name.as_slice()),
-            None => Ok(()),
-        }
+        let name: &[u8] = match self.tasks.task_of(self.program(), step.thread) {
+            Some(task) => task.name.as_slice(),
+            None => b"",
+        };
+        push_pieces(
+            text,
+            &[
+                Word(b"; thread "),
+                Number(thread),
+                Word(b" would begin one more, at the beginning of task "),
+                Word(name),
+                Word(b"\n"),
+            ],
+        )
     }
 
-    // Appends which subthread would have begun next, and the control variables of its thread.
+    // Appends which subthread would have begun next, and the control variables of its thread; and answers whether what a
+    // record has sets a variable of its loops' conditions.
+    fn push_next(
+        &self,
+        alloc: Global,
+        text: &mut Vec<u8>,
+        step: &Step,
+    ) -> Result<bool, AllocError> {
+        let place = Place::Subthread(step.begins.line);
+        let loops = self.loops_of(alloc, step.thread, place)?;
+        self.push_place(text, step, &loops)?;
+        self.push_turned(alloc, text, step.thread, &loops)
+    }
+
+    // Appends which subthread would have begun next, which thread began the most, and, where records decide, which threads
+    // have ended.
     fn push_one_more(
         &self,
         alloc: Global,
         text: &mut Vec<u8>,
         step: &Step,
     ) -> Result<(), AllocError> {
-        let place = Place::Subthread(step.begins.line);
-        let loops = self.loops_of(alloc, step.thread, place)?;
-        self.push_place(text, step, &loops)?;
-        text.extend_from_slice(b"\n")?;
-        let turned = self.turned(alloc, step.thread, &loops)?;
-        let goes_by_record = self.push_values_of(alloc, text, step.thread, &turned)?;
+        let goes_by_record = self.push_next(alloc, text, step)?;
         if self.push_busiest(alloc, text, step.thread)? || goes_by_record {
-            push_ended_threads(alloc, text, self.order, self.standing)?;
+            return push_ended_threads(alloc, text, self.order, self.standing);
         }
         Ok(())
     }
 
     // The line in which a thread began its last subthread.
     fn last_line(&self, thread: ThreadNo) -> u32 {
-        for step in self.order.iter().rev() {
+        let mut line = 0;
+        for step in self.order {
             if step.thread.0 == thread.0 {
-                return step.begins.line;
+                line = step.begins.line;
             }
         }
-        0
+        line
+    }
+
+    // Appends how many subthreads a thread began, the last in a line, in which loops, if in any; and answers whether what a
+    // record has sets a variable of these loops' conditions.
+    fn push_most(
+        &self,
+        alloc: Global,
+        text: &mut Vec<u8>,
+        thread: ThreadNo,
+        count: u32,
+    ) -> Result<bool, AllocError> {
+        let line = self.last_line(thread);
+        let loops = self.loops_of(alloc, thread, Place::Subthread(line))?;
+        if loops.is_empty() {
+            return Ok(false);
+        }
+        push_pieces(
+            text,
+            &[
+                Word(b"thread "),
+                Number(u64::from(thread.0)),
+                Word(b" began the most, "),
+                Number(u64::from(count)),
+                Word(b", the last in line "),
+                Number(u64::from(line)),
+            ],
+        )?;
+        push_loops(text, &loops)?;
+        text.extend_from_slice(b"\n")?;
+        self.push_turned(alloc, text, thread, &loops)
     }
 
     // Appends which thread began more than half of the subthreads, in which loops, if it is another one; and answers whether
@@ -102,19 +182,30 @@ impl<'a> Halted<'a> {
         other: ThreadNo,
     ) -> Result<bool, AllocError> {
         let (thread, count) = busiest(alloc, self.order)?;
-        let line = self.last_line(thread);
-        let loops = self.loops_of(alloc, thread, Place::Subthread(line))?;
         let is_most = count as usize > self.order.len() / 2;
-        if thread.0 == other.0 || !is_most || loops.is_empty() {
+        if thread.0 == other.0 || !is_most {
             return Ok(false);
         }
-        push_labelled(text, b"thread ", thread.0)?;
-        push_labelled(text, b" began the most, ", count)?;
-        push_labelled(text, b", the last in line ", line)?;
-        push_loops(text, &loops)?;
-        text.extend_from_slice(b"\n")?;
-        let turned = self.turned(alloc, thread, &loops)?;
-        self.push_values_of(alloc, text, thread, &turned)
+        self.push_most(alloc, text, thread, count)
+    }
+
+    // Appends which thread would begin the subthread at a position, as a run does that may begin one more.
+    fn push_beyond(
+        &self,
+        alloc: Global,
+        text: &mut Vec<u8>,
+        position: usize,
+    ) -> Result<(), AllocError> {
+        let given = self.request.asked.limits;
+        let limits = Limits {
+            turns: given.turns,
+            subthreads: given.subthreads.saturating_add(1),
+        };
+        let more = run_plain(alloc, &self.request.checked, &self.request.inputs, limits)?;
+        match more.order.get(position) {
+            Some(step) => self.push_one_more(alloc, text, step),
+            None => text.extend_from_slice(b"\n"),
+        }
     }
 
     // Appends which thread would begin a subthread more than there may be.
@@ -125,28 +216,20 @@ impl<'a> Halted<'a> {
         position: usize,
     ) -> Result<(), AllocError> {
         let given = self.request.asked.limits.subthreads;
-        let limits = Limits {
-            turns: self.request.asked.limits.turns,
-            subthreads: given.saturating_add(1),
-        };
-        let more = run_plain(alloc, &self.request.checked, &self.request.inputs, limits)?;
-        push_many(text, position as u64, b" subthread")?;
-        text.extend_from_slice(if position == 1 {
-            b" was begun"
+        let begun: &[u8] = if position == 1 {
+            b" subthread was begun"
         } else {
-            b" were begun"
-        })?;
-        match more.order.get(position) {
-            Some(step) => self.push_one_more(alloc, text, step)?,
-            None => text.extend_from_slice(b"\n")?,
-        }
+            b" subthreads were begun"
+        };
+        push_pieces(text, &[Number(position as u64), Word(begun)])?;
+        self.push_beyond(alloc, text, position)?;
         push_limit(
             text,
-            b"--subthreads",
+            b"hint: --subthreads",
             u64::from(given),
             u64::from(MOST_SUBTHREADS),
-            b"a batch",
-            b"cut the batch into parts\n",
+            b", for a batch that ends\n",
+            b": cut the batch into parts\n",
         )
     }
 }
@@ -154,22 +237,18 @@ impl<'a> Halted<'a> {
 // Appends how many of a thing are allowed, and for what, where that is more than was given, or else what to do.
 fn push_limit(
     text: &mut Vec<u8>,
-    option: &[u8],
+    option: &'static [u8],
     given: u64,
     most: u64,
-    of: &[u8],
-    instead: &[u8],
+    what: &'static [u8],
+    instead: &'static [u8],
 ) -> Result<(), AllocError> {
-    text.extend_from_slice(b"hint: ")?;
-    text.extend_from_slice(option)?;
-    if given < most {
-        push_between(text, b" allows up to ", most, b", for ")?;
-        text.extend_from_slice(of)?;
-        text.extend_from_slice(b" that ends\n")
+    let (allows, rest) = if given < most {
+        (Word(b" allows up to "), Word(what))
     } else {
-        push_between(text, b" allows no more than ", most, b": ")?;
-        text.extend_from_slice(instead)
-    }
+        (Word(b" allows no more than "), Word(instead))
+    };
+    push_pieces(text, &[Word(option), allows, Number(most), rest])
 }
 
 // Where a run has spent its limits, or none where it ends in another way.

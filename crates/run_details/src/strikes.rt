@@ -1,14 +1,17 @@
 // Which of the faults of a list strike a run.
 
+use crate::words::plural;
 use call_cases::Request;
 use gp_audit::restarts_of;
 use gp_base::limits::MOST_SUBTHREADS;
 use gp_base::{Fault, Restart};
 use one_thread::PlainRun;
-use run_hints::{at, push_many, put};
-use run_views::{push_between, push_labelled};
+use run_hints::{at, put};
+use run_views::push_between;
 use std::alloc::{AllocError, Global};
 use std::collections::BTreeSet;
+use text_pieces::Piece::{Number, Word};
+use text_pieces::push_pieces;
 
 // Why a fault is unused: the run has no such position; the position has no such attempt; or a restart ends the attempt before.
 #[derive(Clone, Copy)]
@@ -56,17 +59,20 @@ impl Attempts {
             lasts: Vec::new(alloc),
         };
         for restart in restarts {
-            attempts.struck.insert((restart.struck.0, restart.attempt))?;
-            for position in restart.redo.as_slice() {
-                attempts.redo(position.0 as usize)?;
-            }
+            attempts.note(restart)?;
         }
         Ok(attempts)
     }
 
-    fn redo(&mut self, position: usize) -> Result<(), AllocError> {
-        let last = at(&self.lasts, position).saturating_add(1);
-        put(&mut self.lasts, position, last)
+    // One restart more.
+    fn note(&mut self, restart: &Restart) -> Result<(), AllocError> {
+        self.struck.insert((restart.struck.0, restart.attempt))?;
+        for position in restart.redo.as_slice() {
+            let position = position.0 as usize;
+            let last = at(&self.lasts, position).saturating_add(1);
+            put(&mut self.lasts, position, last)?;
+        }
+        Ok(())
     }
 
     // Why a fault is unused, if it is.
@@ -92,10 +98,19 @@ impl Attempts {
         let Some(first) = group.first else {
             return Ok(());
         };
-        text.extend_from_slice(b"hint: ")?;
-        push_many(text, group.count, b" fault")?;
-        push_labelled(text, b" unused, first position ", first.pos)?;
-        push_labelled(text, b" attempt ", first.attempt)?;
+        push_pieces(
+            text,
+            &[
+                Word(b"hint: "),
+                Number(group.count),
+                Word(b" fault"),
+                plural(group.count),
+                Word(b" unused, first position "),
+                Number(u64::from(first.pos)),
+                Word(b" attempt "),
+                Number(u64::from(first.attempt)),
+            ],
+        )?;
         match why {
             Unused::Position => {
                 let last = self.positions.saturating_sub(1);
@@ -129,22 +144,23 @@ fn push_faults(
         }
     }
     let count = faults.len() as u64;
-    push_many(text, count, b" fault")?;
-    push_between(
+    push_pieces(
         text,
-        b": ",
-        strikes,
-        if strikes == 1 {
-            b" strikes"
-        } else {
-            b" strike"
-        },
-    )?;
-    push_between(
-        text,
-        b" in `gprs run`, ",
-        count.saturating_sub(strikes),
-        b" unused\n",
+        &[
+            Number(count),
+            Word(b" fault"),
+            plural(count),
+            Word(b": "),
+            Number(strikes),
+            Word(if strikes == 1 {
+                b" strikes"
+            } else {
+                b" strike"
+            }),
+            Word(b" in `gprs run`, "),
+            Number(count.saturating_sub(strikes)),
+            Word(b" unused\n"),
+        ],
     )?;
     attempts.push_group(text, beyond, Unused::Position)?;
     attempts.push_group(text, unmade, Unused::Attempt)?;
