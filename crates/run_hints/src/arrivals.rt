@@ -1,15 +1,16 @@
 // How often threads came to the barriers at which a run is stuck, and in which lines.
 
-use crate::ended::is_barrier;
 use crate::loops::{Place, loops_at, push_loops};
 use crate::statements::statements_of;
 use crate::threads::Tasks;
 use crate::words::put_once;
 use gp_base::Name;
 use one_thread::{Standing, Step};
-use run_views::{push_between, push_number};
+use run_views::push_labelled;
 use std::alloc::{AllocError, Global};
-use task_ast::{Head, Program, TaskText, What};
+use task_ast::{Head, Program, SyncOp, TaskText, What};
+use text_pieces::Piece::{Number, Word};
+use text_pieces::push_pieces;
 
 // How many stretches of thread numbers are told of a barrier, and how many of its lines.
 const MOST_STRETCHES: usize = 8;
@@ -24,8 +25,16 @@ struct Arrivals {
     count: u32,
 }
 
-// Whether a thread stands at the barrier of this number.
-fn is_waited_at(standing: &Standing, barrier: u32) -> bool {
+// Whether a synchronisation is at the barrier of this number.
+fn is_barrier(sync: &SyncOp, number: u32) -> bool {
+    match sync {
+        SyncOp::Barrier(other) => *other == number,
+        _ => false,
+    }
+}
+
+/// Whether a thread stands at the barrier of this number.
+pub fn is_waited_at(standing: &Standing, barrier: u32) -> bool {
     for next in standing.nexts.as_slice() {
         if let Some(next) = next {
             if is_barrier(&next.sync, barrier) {
@@ -42,8 +51,8 @@ fn count_one(counts: &mut Vec<u32>, thread: usize) {
     }
 }
 
-// How often each thread came to a barrier, by its number.
-fn arrivals_at(
+/// How often each thread came to a barrier, by its number. The error is that memory is out.
+pub fn arrivals_at(
     alloc: Global,
     order: &[Step],
     standing: &Standing,
@@ -55,12 +64,14 @@ fn arrivals_at(
             count_one(&mut counts, step.thread.0 as usize);
         }
     }
-    for (thread, next) in standing.nexts.iter().enumerate() {
+    let mut thread: usize = 0;
+    for next in standing.nexts.as_slice() {
         if let Some(next) = next {
             if is_barrier(&next.sync, barrier) {
                 count_one(&mut counts, thread);
             }
         }
+        thread = thread.saturating_add(1);
     }
     Ok(counts)
 }
@@ -84,21 +95,32 @@ fn add_thread(stretches: &mut Vec<Arrivals>, thread: usize, count: u32) -> Resul
 
 fn stretches_of(alloc: Global, counts: &[u32]) -> Result<Vec<Arrivals>, AllocError> {
     let mut stretches = Vec::new(alloc);
-    for (thread, count) in counts.iter().enumerate() {
+    let mut thread: usize = 0;
+    for count in counts {
         add_thread(&mut stretches, thread, *count)?;
+        thread = thread.saturating_add(1);
     }
     Ok(stretches)
 }
 
 // Appends how often the threads of a stretch came.
-fn push_stretch(text: &mut Vec<u8>, stretch: Arrivals) -> Result<(), AllocError> {
+fn push_stretch(text: &mut Vec<u8>, between: &[u8], stretch: Arrivals) -> Result<(), AllocError> {
+    let count = Number(u64::from(stretch.count));
+    let (from, to) = (Number(stretch.from as u64), Number(stretch.to as u64));
     if stretch.from == stretch.to {
-        push_between(text, b"", stretch.count, b" by thread ")?;
-        return push_number(text, stretch.from);
+        return push_pieces(text, &[Word(between), count, Word(b" by thread "), from]);
     }
-    push_between(text, b"", stretch.count, b" by threads ")?;
-    push_between(text, b"", stretch.from, b" to ")?;
-    push_number(text, stretch.to)
+    push_pieces(
+        text,
+        &[
+            Word(between),
+            count,
+            Word(b" by threads "),
+            from,
+            Word(b" to "),
+            to,
+        ],
+    )
 }
 
 // Appends how often the threads came that came to a barrier of this name.
@@ -112,17 +134,14 @@ fn push_stretches(
     let mut between: &[u8] = b": ";
     let mut told: usize = 0;
     for stretch in stretches {
-        if stretch.count > 0 && told < MOST_STRETCHES {
-            text.extend_from_slice(between)?;
-            push_stretch(text, *stretch)?;
-            between = b", ";
-        }
         if stretch.count > 0 {
+            if told == MOST_STRETCHES {
+                return text.extend_from_slice(b", and so on\n");
+            }
+            push_stretch(text, between, *stretch)?;
+            between = b", ";
             told = told.saturating_add(1);
         }
-    }
-    if told > MOST_STRETCHES {
-        text.extend_from_slice(b", and so on")?;
     }
     text.extend_from_slice(b"\n")
 }
@@ -150,6 +169,23 @@ fn barrier_lines(alloc: Global, task: &TaskText, name: &Name) -> Result<Vec<u32>
     Ok(lines)
 }
 
+// Appends a line of a task with a barrier, the first that is told or a later one, and the loops around it.
+fn push_line(
+    alloc: Global,
+    text: &mut Vec<u8>,
+    task: &TaskText,
+    line: u32,
+    is_first: bool,
+) -> Result<(), AllocError> {
+    let word: &[u8] = if is_first {
+        b" stands in line "
+    } else {
+        b"; in line "
+    };
+    push_labelled(text, word, line)?;
+    push_loops(text, &loops_at(alloc, task, Place::Subthread(line))?)
+}
+
 // Appends the lines of a task with a barrier of this name, and the loops around each, after so many lines of other tasks; and
 // gives how many there are with these.
 fn push_task(
@@ -162,13 +198,7 @@ fn push_task(
     let mut told = before;
     for line in &barrier_lines(alloc, task, name)? {
         if told < MOST_LINES {
-            text.extend_from_slice(if told == 0 {
-                b" stands in line "
-            } else {
-                b"; in line "
-            })?;
-            push_number(text, *line)?;
-            push_loops(text, &loops_at(alloc, task, Place::Subthread(*line))?)?;
+            push_line(alloc, text, task, *line, told == 0)?;
         }
         told = told.saturating_add(1);
     }
@@ -193,10 +223,27 @@ fn push_lines(
         }
         number = number.saturating_add(1);
     }
-    if told > MOST_LINES {
-        text.extend_from_slice(b"; and so on")?;
+    text.extend_from_slice(if told > MOST_LINES {
+        b"; and so on\n"
+    } else {
+        b"\n"
+    })
+}
+
+// Appends how often the threads came to a barrier of this name, and where it stands, where one came more than once.
+fn push_one(
+    alloc: Global,
+    text: &mut Vec<u8>,
+    program: &Program,
+    tasks: &Tasks,
+    name: &Name,
+    counts: &[u32],
+) -> Result<(), AllocError> {
+    if !some_came_again(counts) {
+        return Ok(());
     }
-    text.extend_from_slice(b"\n")
+    push_stretches(text, name, &stretches_of(alloc, counts)?)?;
+    push_lines(alloc, text, program, tasks, name)
 }
 
 /// Appends of each barrier at which threads stand how often each thread came to it, where one came more than once, and in which
@@ -209,20 +256,14 @@ pub fn push_arrivals(
     order: &[Step],
     standing: &Standing,
 ) -> Result<(), AllocError> {
-    let mut number: u32 = 0;
+    let mut barrier: u32 = 0;
     for head in program.heads.as_slice() {
-        let Head::BarrierHead { name, .. } = head else {
-            continue;
-        };
-        let barrier = number;
-        number = number.saturating_add(1);
-        if !is_waited_at(standing, barrier) {
-            continue;
-        }
-        let counts = arrivals_at(alloc, order, standing, barrier)?;
-        if some_came_again(&counts) {
-            push_stretches(text, name, &stretches_of(alloc, &counts)?)?;
-            push_lines(alloc, text, program, tasks, name)?;
+        if let Head::BarrierHead { name, .. } = head {
+            if is_waited_at(standing, barrier) {
+                let counts = arrivals_at(alloc, order, standing, barrier)?;
+                push_one(alloc, text, program, tasks, name, &counts)?;
+            }
+            barrier = barrier.saturating_add(1);
         }
     }
     Ok(())

@@ -4,9 +4,10 @@ use crate::loops::{Place, loops_at};
 use crate::statements::{is_among, put_controls, statements_of, value_of};
 use gp_base::Name;
 use run_counts::Loop;
-use run_views::{push_between, push_labelled};
 use std::alloc::{AllocError, Global};
 use task_ast::{Env, Expr, Op, Stmt, TaskText, What, apply, eval_d};
+use text_pieces::Piece::{Number, Signed, Word};
+use text_pieces::push_pieces;
 
 // How often the variables are followed from which an index is computed.
 const MOST_FOLLOWED: usize = 2;
@@ -14,7 +15,7 @@ const MOST_FOLLOWED: usize = 2;
 /// A variable that is compared with a bound.
 #[derive(Clone, Copy)]
 pub struct Bound<'a> {
-    pub name: &'a Name,
+    name: &'a Name,
     op: Op,
     bound: &'a Expr,
 }
@@ -42,18 +43,29 @@ fn sign(op: Op) -> &'static [u8] {
     }
 }
 
+// The variable that an expression is, where it is one of these.
+fn control_among<'a>(names: &[&Name], e: &'a Expr) -> Option<&'a Name> {
+    match e {
+        Expr::Ctl(name) if is_among(names, name) => Some(name),
+        _ => None,
+    }
+}
+
 // The bound of a variable by the two sides of a comparison.
 fn bound_by<'a>(names: &[&Name], left: &'a Expr, op: Op, right: &'a Expr) -> Option<Bound<'a>> {
     let turned = turned(op)?;
-    match (left, right) {
-        (Expr::Ctl(name), bound) if is_among(names, name) => Some(Bound { name, op, bound }),
-        (bound, Expr::Ctl(name)) if is_among(names, name) => Some(Bound {
+    if let Some(name) = control_among(names, left) {
+        return Some(Bound {
             name,
-            op: turned,
-            bound,
-        }),
-        _ => None,
+            op,
+            bound: right,
+        });
     }
+    Some(Bound {
+        name: control_among(names, right)?,
+        op: turned,
+        bound: left,
+    })
 }
 
 /// The first bound of one of these variables among the comparisons that a condition joins by `and`.
@@ -87,8 +99,7 @@ pub fn bound_in<'a>(names: &[&Name], condition: &'a Expr) -> Option<Bound<'a>> {
 fn has_cell(e: &Expr) -> bool {
     match e {
         Expr::Cell(_, _, _) => true,
-        Expr::Neg(a) => has_cell(a),
-        Expr::Not(a) => has_cell(a),
+        Expr::Neg(a) | Expr::Not(a) => has_cell(a),
         Expr::Chain(first, links) => {
             if has_cell(first) {
                 return true;
@@ -150,9 +161,9 @@ pub fn fed_by<'a>(names: &[&Name], statements: &[&'a Stmt], line: u32) -> Option
 /// What a bound came to, what its variable did, and whether the comparison of both holds.
 #[derive(Clone, Copy)]
 pub struct Came<'a> {
-    pub bound: Bound<'a>,
+    bound: Bound<'a>,
     limit: i64,
-    pub value: i64,
+    value: i64,
     holds: bool,
 }
 
@@ -196,51 +207,89 @@ fn own_bound<'a>(
 
 // The bound of one of these variables by the innermost of these loops that has one, with the line of the loop.
 fn loop_bound<'a>(names: &[&Name], loops: &[Loop<'a>], env: &Env) -> Option<(u32, Came<'a>)> {
-    for around in loops.iter().rev() {
+    let mut found = None;
+    for around in loops {
         if let Some(bound) = bound_in(names, around.condition) {
-            return Some((around.line, came_to(env, bound)?));
+            found = Some((around.line, bound));
         }
     }
-    None
-}
-
-/// Appends a comparison with the value of its bound. The error is that memory is out.
-pub fn push_comparison(text: &mut Vec<u8>, came: Came<'_>) -> Result<(), AllocError> {
-    text.extend_from_slice(came.bound.name.as_slice())?;
-    push_labelled(text, sign(came.bound.op), came.limit)
+    let (line, bound) = found?;
+    Some((line, came_to(env, bound)?))
 }
 
 // Appends that a condition reads a cell also where its comparison does not hold.
-fn push_own(text: &mut Vec<u8>, came: Came<'_>) -> Result<(), AllocError> {
-    text.extend_from_slice(b"hint: all parts of a condition are read, also where ")?;
-    push_comparison(text, came)?;
-    text.extend_from_slice(b" does not hold: read the cell after that test\n")
+fn push_own<'a>(text: &mut Vec<u8>, came: Came<'a>) -> Result<(), AllocError> {
+    push_pieces(
+        text,
+        &[
+            Word(b"hint: all parts of a condition are read, also where "),
+            Word(came.bound.name.as_slice()),
+            Word(sign(came.bound.op)),
+            Signed(came.limit),
+            Word(b" does not hold: read the cell after that test\n"),
+        ],
+    )
 }
 
-// Appends how the condition of the loop in a line lets an index come to be outside.
-fn push_loop(text: &mut Vec<u8>, line: u32, came: Came<'_>) -> Result<(), AllocError> {
-    push_labelled(text, b"hint: the loop in line ", line)?;
-    text.extend_from_slice(b" goes on while ")?;
-    push_comparison(text, came)?;
-    text.extend_from_slice(if came.holds {
+/// Appends while what the loop in a line goes on, and after a word what its variable came to. The error is that memory is
+/// out.
+pub fn push_loop<'a>(
+    text: &mut Vec<u8>,
+    before: &'a [u8],
+    line: u32,
+    came: Came<'a>,
+    after: &'a [u8],
+) -> Result<(), AllocError> {
+    let name = Word(came.bound.name.as_slice());
+    push_pieces(
+        text,
+        &[
+            Word(before),
+            Number(u64::from(line)),
+            Word(b" goes on while "),
+            name,
+            Word(sign(came.bound.op)),
+            Signed(came.limit),
+            Word(after),
+            name,
+            Word(b" came to "),
+            Signed(came.value),
+            Word(b"\n"),
+        ],
+    )
+}
+
+// Appends how the condition of the innermost of these loops that has a bound lets an index come to be outside.
+fn push_outside(
+    text: &mut Vec<u8>,
+    names: &[&Name],
+    loops: &[Loop<'_>],
+    env: &Env,
+) -> Result<(), AllocError> {
+    let Some((line, came)) = loop_bound(names, loops, env) else {
+        return Ok(());
+    };
+    let after: &[u8] = if came.holds {
         b", and "
     } else {
         b", but after that test "
-    })?;
-    text.extend_from_slice(came.bound.name.as_slice())?;
-    push_labelled(text, b" came to ", came.value)?;
-    text.extend_from_slice(b"\n")
+    };
+    push_loop(text, b"hint: the loop in line ", line, came, after)
 }
 
 // Appends that a variable comes from a feed.
-fn push_fed(text: &mut Vec<u8>, name: &Name, line: u32) -> Result<(), AllocError> {
-    text.extend_from_slice(b"hint: ")?;
-    text.extend_from_slice(name.as_slice())?;
-    push_between(
+fn push_fed<'a>(text: &mut Vec<u8>, name: &'a Name, line: u32) -> Result<(), AllocError> {
+    push_pieces(
         text,
-        b" comes from a feed, in line ",
-        line,
-        b": test such a number before it is an index, or take 1 off where the file counts from 1\n",
+        &[
+            Word(b"hint: "),
+            Word(name.as_slice()),
+            Word(b" comes from a feed, in line "),
+            Number(u64::from(line)),
+            Word(
+                b": test such a number before it is an index, or take 1 off where the file counts from 1\n",
+            ),
+        ],
     )
 }
 
@@ -255,7 +304,6 @@ pub fn push_bound<'a>(
     env: &Env,
 ) -> Result<(), AllocError> {
     let statements = statements_of(alloc, task)?;
-    let loops = loops_at(alloc, task, Place::Statement(line))?;
     if let Some((name, set)) = fed_by(names, &statements, line) {
         return push_fed(text, name, set);
     }
@@ -263,8 +311,6 @@ pub fn push_bound<'a>(
     if let Some(came) = own_bound(&followed, &statements, line, env) {
         return push_own(text, came);
     }
-    match loop_bound(&followed, &loops, env) {
-        Some((around, came)) => push_loop(text, around, came),
-        None => Ok(()),
-    }
+    let loops = loops_at(alloc, task, Place::Statement(line))?;
+    push_outside(text, &followed, &loops, env)
 }

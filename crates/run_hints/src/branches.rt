@@ -5,9 +5,10 @@ use crate::words::push_times;
 use gp_base::{Name, ThreadNo};
 use one_thread::{Reckon, Step};
 use run_counts::{Loop, Turns};
-use run_views::push_labelled;
 use std::alloc::{AllocError, Global};
 use task_ast::{Env, Expr, Program, Stmt, What};
+use text_pieces::Piece::{Number, Word};
+use text_pieces::push_pieces;
 
 // How many conditions are told at most.
 const MOST_BRANCHES: usize = 4;
@@ -20,6 +21,17 @@ struct ForkBlock {
     // Whether it is the block after `else`.
     is_else: bool,
     left_out: u64,
+}
+
+impl ForkBlock {
+    // Whether it was left out, where its condition has so many turns.
+    fn is_left_out(&self, turns: u64) -> bool {
+        match turns {
+            0 => !self.is_else,
+            1 => false,
+            _ => self.is_else,
+        }
+    }
 }
 
 // The line of the first fork in a block.
@@ -92,6 +104,26 @@ impl<'a> ForkBlocks<'a> {
     }
 }
 
+// The blocks with forks of the tasks that a run has.
+fn fork_blocks<'a>(
+    alloc: Global,
+    program: &'a Program,
+    tasks: &Tasks,
+) -> Result<ForkBlocks<'a>, AllocError> {
+    let mut found = ForkBlocks {
+        branches: Vec::new(alloc),
+        conditions: Vec::new(alloc),
+    };
+    let mut number: u32 = 0;
+    for task in program.tasks.as_slice() {
+        if tasks.are_run(number) {
+            found.search(task.body.as_slice())?;
+        }
+        number = number.saturating_add(1);
+    }
+    Ok(found)
+}
+
 /// The blocks with forks of the conditions of a program, and how often each was left out in a run. Conditions of one line that
 /// are written alike are not told apart.
 #[derive(Drop)]
@@ -110,21 +142,10 @@ impl<'a> Branches<'a> {
         order: &'a [Step],
         tasks: &Tasks,
     ) -> Result<Branches<'a>, AllocError> {
-        let mut found = ForkBlocks {
-            branches: Vec::new(alloc),
-            conditions: Vec::new(alloc),
-        };
-        let mut number: u32 = 0;
-        for task in program.tasks.as_slice() {
-            if tasks.are_run(number) {
-                found.search(task.body.as_slice())?;
-            }
-            number = number.saturating_add(1);
-        }
         let ForkBlocks {
             branches,
             conditions,
-        } = found;
+        } = fork_blocks(alloc, program, tasks)?;
         Ok(Branches {
             branches,
             turns: Turns::new(alloc, order, ThreadNo(0), &conditions)?,
@@ -139,15 +160,14 @@ impl<'a> Branches<'a> {
 
     // The turns tell which condition was asked for, and its value.
     fn note(&mut self) {
-        for (branch, turned) in self.branches.iter_mut().zip(self.turns.loops.as_slice()) {
-            let is_left_out = match turned.turns {
-                0 => !branch.is_else,
-                1 => false,
-                _ => branch.is_else,
-            };
-            if is_left_out {
-                branch.left_out = branch.left_out.saturating_add(1);
+        let mut place: usize = 0;
+        for branch in self.branches.iter_mut() {
+            if let Some(turned) = self.turns.loops.get(place) {
+                if branch.is_left_out(turned.turns) {
+                    branch.left_out = branch.left_out.saturating_add(1);
+                }
             }
+            place = place.saturating_add(1);
         }
     }
 
@@ -193,13 +213,20 @@ impl<'a> Reckon for Branches<'a> {
 
 // Appends how often a block was left out.
 fn push_branch(text: &mut Vec<u8>, branch: ForkBlock) -> Result<(), AllocError> {
-    push_labelled(text, b"hint: the `if` in line ", branch.line)?;
-    push_labelled(text, b", with the fork in line ", branch.fork)?;
-    text.extend_from_slice(if branch.is_else {
-        b" in its `else`, was true "
-    } else {
-        b", was false "
-    })?;
+    push_pieces(
+        text,
+        &[
+            Word(b"hint: the `if` in line "),
+            Number(u64::from(branch.line)),
+            Word(b", with the fork in line "),
+            Number(u64::from(branch.fork)),
+            Word(if branch.is_else {
+                b" in its `else`, was true "
+            } else {
+                b", was false "
+            }),
+        ],
+    )?;
     push_times(text, branch.left_out)?;
     text.extend_from_slice(b"\n")
 }

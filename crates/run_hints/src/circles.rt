@@ -2,9 +2,11 @@
 
 use gp_base::LockNo;
 use one_thread::Standing;
-use run_views::{push_labelled, push_lock};
+use run_views::push_lock;
 use std::alloc::{AllocError, Global};
 use task_ast::{Head, SyncOp};
+use text_pieces::Piece::{Number, Word};
+use text_pieces::push_pieces;
 
 // Of how many threads of a circle it is told in which order they take their locks.
 const MOST_ORDERS: usize = 8;
@@ -53,6 +55,21 @@ fn circle_from(
     Ok(None)
 }
 
+/// Appends after a word that a thread takes one lock before another. The error is that memory is out.
+pub fn push_order(
+    text: &mut Vec<u8>,
+    heads: &[Head],
+    word: &[u8],
+    thread: u64,
+    held: LockNo,
+    wanted: LockNo,
+) -> Result<(), AllocError> {
+    push_pieces(text, &[Word(word), Number(thread), Word(b" takes ")])?;
+    push_lock(text, heads, held)?;
+    text.extend_from_slice(b" before ")?;
+    push_lock(text, heads, wanted)
+}
+
 // Appends in which order each thread of a circle takes its locks: the one for which the thread before it waits, and then
 // the one for which it waits.
 fn push_orders(text: &mut Vec<u8>, heads: &[Head], circle: &[Waiting]) -> Result<(), AllocError> {
@@ -61,20 +78,27 @@ fn push_orders(text: &mut Vec<u8>, heads: &[Head], circle: &[Waiting]) -> Result
     };
     let mut held = last.wanted;
     let mut between: &[u8] = b"hint: thread ";
-    for waiting in circle.iter().take(MOST_ORDERS) {
-        push_labelled(text, between, waiting.thread)?;
-        text.extend_from_slice(b" takes ")?;
-        push_lock(text, heads, held)?;
-        text.extend_from_slice(b" before ")?;
-        push_lock(text, heads, waiting.wanted)?;
+    let mut told: usize = 0;
+    for waiting in circle {
+        if told < MOST_ORDERS {
+            let thread = waiting.thread as u64;
+            push_order(text, heads, between, thread, held, waiting.wanted)?;
+        }
         held = waiting.wanted;
         between = b", thread ";
+        told = told.saturating_add(1);
     }
-    if circle.len() > MOST_ORDERS {
-        text.extend_from_slice(b", and so on")?;
-    }
-    text.extend_from_slice(
-        b": threads that all take their locks in one order do not wait in a circle\n",
+    let rest: &[u8] = if told > MOST_ORDERS {
+        b", and so on"
+    } else {
+        b""
+    };
+    push_pieces(
+        text,
+        &[
+            Word(rest),
+            Word(b": threads that all take their locks in one order do not wait in a circle\n"),
+        ],
     )
 }
 

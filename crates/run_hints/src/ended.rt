@@ -1,10 +1,14 @@
 // The threads that have ended, and how many come to a barrier.
 
+use crate::arrivals::{arrivals_at, is_waited_at};
+use crate::words::{at, push_stretch};
 use gp_base::Name;
 use one_thread::{Standing, Step};
-use run_views::{push_between, push_labelled, push_number};
+use run_views::push_between;
 use std::alloc::{AllocError, Global};
 use task_ast::{Head, Next, SyncOp, natural};
+use text_pieces::Piece::{Number, Word};
+use text_pieces::push_pieces;
 
 // How many stretches of threads that have ended are told by their numbers.
 const MOST_ENDED: usize = 8;
@@ -75,9 +79,9 @@ fn ended_of(alloc: Global, order: &[Step], standing: &Standing) -> Result<Vec<En
     let lines = last_lines(alloc, order, nexts.len())?;
     let mut stretches = Vec::new(alloc);
     let mut thread: u32 = 0;
-    for (next, line) in nexts.iter().zip(&lines) {
+    for next in nexts {
         if has_ended(next) {
-            add_thread(&mut stretches, thread, *line)?;
+            add_thread(&mut stretches, thread, at(&lines, thread as usize))?;
         }
         thread = thread.saturating_add(1);
     }
@@ -85,25 +89,38 @@ fn ended_of(alloc: Global, order: &[Step], standing: &Standing) -> Result<Vec<En
 }
 
 // Appends threads that have ended, the first or others, with the line of the last synchronisation of each.
-fn push_stretch(text: &mut Vec<u8>, is_first: bool, ended: Ended) -> Result<(), AllocError> {
-    let is_one = ended.from == ended.to;
-    text.extend_from_slice(if is_first { b"hint: " } else { b"; " })?;
-    text.extend_from_slice(if is_one { b"thread " } else { b"threads " })?;
-    push_number(text, ended.from)?;
-    if !is_one {
-        push_labelled(text, b" to ", ended.to)?;
-    }
-    if is_first {
-        text.extend_from_slice(if is_one {
-            b" has ended"
-        } else {
-            b" have ended"
-        })?;
-    }
+fn push_threads(text: &mut Vec<u8>, is_first: bool, ended: Ended) -> Result<(), AllocError> {
+    let (before, after): (&[u8], &[u8]) = match (is_first, ended.from == ended.to) {
+        (true, true) => (b"hint: thread ", b" has ended"),
+        (true, false) => (b"hint: threads ", b" have ended"),
+        (false, true) => (b"; thread ", b""),
+        (false, false) => (b"; threads ", b""),
+    };
+    push_stretch(text, before, u64::from(ended.from), u64::from(ended.to))?;
     if ended.line == 0 {
-        return text.extend_from_slice(b", with no synchronisation");
+        return push_pieces(text, &[Word(after), Word(b", with no synchronisation")]);
     }
-    push_labelled(text, b", after line ", ended.line)
+    let line = Number(u64::from(ended.line));
+    push_pieces(text, &[Word(after), Word(b", after line "), line])
+}
+
+// Appends the first of these stretches as a line, and how many threads the others are.
+fn push_stretches(text: &mut Vec<u8>, stretches: &[Ended]) -> Result<(), AllocError> {
+    let mut told: usize = 0;
+    let mut left: u64 = 0;
+    for ended in stretches {
+        if told < MOST_ENDED {
+            push_threads(text, told == 0, *ended)?;
+            told = told.saturating_add(1);
+        } else {
+            left = left.saturating_add(u64::from(ended.to.saturating_sub(ended.from)));
+            left = left.saturating_add(1);
+        }
+    }
+    if left == 0 {
+        return text.extend_from_slice(b"\n");
+    }
+    push_between(text, b"; and ", left, b" more\n")
 }
 
 /// Appends which threads have ended, each with the line of its last synchronisation, of the first stretches of them. The error
@@ -118,19 +135,7 @@ pub fn push_ended_threads(
     if stretches.is_empty() {
         return Ok(());
     }
-    let mut left: u64 = 0;
-    for (told, ended) in stretches.iter().enumerate() {
-        if told < MOST_ENDED {
-            push_stretch(text, told == 0, *ended)?;
-        } else {
-            left = left.saturating_add(u64::from(ended.to.saturating_sub(ended.from)));
-            left = left.saturating_add(1);
-        }
-    }
-    if left > 0 {
-        push_between(text, b"; and ", left, b" more")?;
-    }
-    text.extend_from_slice(b"\n")
+    push_stretches(text, &stretches)
 }
 
 /// Appends which threads have ended, where others wait at a barrier. The error is that memory is out.
@@ -146,63 +151,60 @@ pub fn push_ended(
     push_ended_threads(alloc, text, order, standing)
 }
 
-/// Whether a synchronisation is at the barrier of this number.
-pub fn is_barrier(sync: &SyncOp, number: u32) -> bool {
-    match sync {
-        SyncOp::Barrier(other) => *other == number,
-        _ => false,
-    }
-}
-
-fn mark(came: &mut Vec<bool>, thread: usize) {
-    if let Some(place) = came.get_mut(thread) {
-        *place = true;
-    }
-}
-
-// How many threads came to a barrier, and how many of them stand there.
-fn came_to(
+// How many threads came to a barrier.
+fn count_of(
     alloc: Global,
     order: &[Step],
     standing: &Standing,
-    number: u32,
-) -> Result<(u64, u64), AllocError> {
-    let mut came = Vec::from_elem(alloc, false, standing.nexts.len())?;
-    for step in order {
-        if is_barrier(&step.begins.sync, number) {
-            mark(&mut came, step.thread.0 as usize);
-        }
-    }
-    let mut standing_there: u64 = 0;
-    for (thread, next) in standing.nexts.iter().enumerate() {
-        if let Some(next) = next {
-            if is_barrier(&next.sync, number) {
-                mark(&mut came, thread);
-                standing_there = standing_there.saturating_add(1);
-            }
-        }
-    }
+    barrier: u32,
+) -> Result<u64, AllocError> {
     let mut count: u64 = 0;
-    for is_one in &came {
-        if *is_one {
+    for arrivals in &arrivals_at(alloc, order, standing, barrier)? {
+        if *arrivals > 0 {
             count = count.saturating_add(1);
         }
     }
-    Ok((count, standing_there))
+    Ok(count)
 }
 
 // Appends that a barrier is of so many threads, and how many others there are.
-fn push_unlike(
+fn push_unlike<'a>(
+    text: &mut Vec<u8>,
+    name: &'a Name,
+    wanted: u64,
+    count: u64,
+    what: &'a [u8],
+) -> Result<(), AllocError> {
+    push_pieces(
+        text,
+        &[
+            Word(b"hint: barrier "),
+            Word(name.as_slice()),
+            Word(b" is of "),
+            Number(wanted),
+            Word(b" threads, and "),
+            Word(what),
+            Number(count),
+            Word(b"\n"),
+        ],
+    )
+}
+
+// Appends a barrier of so many threads, where the run has fewer, or more came to it.
+fn push_barrier(
     text: &mut Vec<u8>,
     name: &Name,
     wanted: u64,
-    count: u64,
-    what: &[u8],
+    threads: u64,
+    came: u64,
 ) -> Result<(), AllocError> {
-    text.extend_from_slice(b"hint: barrier ")?;
-    text.extend_from_slice(name.as_slice())?;
-    push_between(text, b" is of ", wanted, b" threads, and ")?;
-    push_between(text, what, count, b"\n")
+    if threads < wanted {
+        push_unlike(text, name, wanted, threads, b"the run has ")
+    } else if came > wanted {
+        push_unlike(text, name, wanted, came, b"so many come to it: ")
+    } else {
+        Ok(())
+    }
 }
 
 /// Appends the barriers at which threads stand and to which more threads come than they are of, or that are of more threads
@@ -217,16 +219,12 @@ pub fn push_gathered(
     let threads = standing.nexts.len() as u64;
     let mut barrier: u32 = 0;
     for head in heads {
-        let Head::BarrierHead { name, number, .. } = head else {
-            continue;
-        };
-        let wanted = natural(*number);
-        let (came, there) = came_to(alloc, order, standing, barrier)?;
-        barrier = barrier.saturating_add(1);
-        if there > 0 && threads < wanted {
-            push_unlike(text, name, wanted, threads, b"the run has ")?;
-        } else if there > 0 && came > wanted {
-            push_unlike(text, name, wanted, came, b"so many come to it: ")?;
+        if let Head::BarrierHead { name, number, .. } = head {
+            if is_waited_at(standing, barrier) {
+                let came = count_of(alloc, order, standing, barrier)?;
+                push_barrier(text, name, natural(*number), threads, came)?;
+            }
+            barrier = barrier.saturating_add(1);
         }
     }
     Ok(())

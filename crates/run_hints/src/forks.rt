@@ -1,12 +1,13 @@
 // Where the threads of a run were forked, and which of them began the most subthreads.
 
 use crate::threads::child_of;
-use crate::words::{at, push_many, put};
+use crate::words::{at, plural, put};
 use gp_base::ThreadNo;
 use one_thread::Step;
-use run_views::{push_between, push_labelled};
 use std::alloc::{AllocError, Global};
 use task_ast::SyncOp;
+use text_pieces::Piece::{Number, Word};
+use text_pieces::push_pieces;
 
 // The line that forked the most threads, and how many.
 fn most_forking(alloc: Global, order: &[Step]) -> Result<(u32, u32), AllocError> {
@@ -37,10 +38,19 @@ fn greatest(numbers: &[u32]) -> (u32, u32) {
 /// Appends which line forked the most of a run's threads. The error is that memory is out.
 pub fn push_forks(alloc: Global, text: &mut Vec<u8>, order: &[Step]) -> Result<(), AllocError> {
     let (line, count) = most_forking(alloc, order)?;
-    push_labelled(text, b"hint: line ", line)?;
-    text.extend_from_slice(b" forked ")?;
-    push_many(text, u64::from(count), b" thread")?;
-    text.extend_from_slice(b"\n")
+    let count = u64::from(count);
+    push_pieces(
+        text,
+        &[
+            Word(b"hint: line "),
+            Number(u64::from(line)),
+            Word(b" forked "),
+            Number(count),
+            Word(b" thread"),
+            Word(plural(count)),
+            Word(b"\n"),
+        ],
+    )
 }
 
 /// The thread that began the most subthreads of a run, the first of them, and how many it began. The error is that memory is
@@ -88,14 +98,19 @@ pub fn push_chain(
         return Ok(false);
     }
     let parent = at(&parents, thread.0 as usize);
-    push_labelled(text, b"hint: thread ", thread.0)?;
-    push_labelled(text, b" was forked by thread ", parent)?;
-    push_labelled(text, b", that by thread ", at(&parents, parent as usize))?;
-    push_between(
+    push_pieces(
         text,
-        b", and so on, ",
-        length,
-        b" threads deep: a task that forks itself has to end somewhere\n",
+        &[
+            Word(b"hint: thread "),
+            Number(u64::from(thread.0)),
+            Word(b" was forked by thread "),
+            Number(u64::from(parent)),
+            Word(b", that by thread "),
+            Number(u64::from(at(&parents, parent as usize))),
+            Word(b", and so on, "),
+            Number(length),
+            Word(b" threads deep: a task that forks itself has to end somewhere\n"),
+        ],
     )?;
     Ok(true)
 }

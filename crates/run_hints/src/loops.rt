@@ -1,7 +1,7 @@
 // The loops around a place.
 
 use run_counts::Loop;
-use run_views::{push_labelled, push_number};
+use run_views::push_labelled;
 use std::alloc::{AllocError, Global};
 use task_ast::{Stmt, TaskText, What};
 
@@ -82,19 +82,19 @@ pub fn loops_at<'a>(
 /// Appends in which loops the last of these stands, if it stands in any. The error is that memory is out.
 pub fn push_outer(text: &mut Vec<u8>, loops: &[Loop<'_>]) -> Result<(), AllocError> {
     let count = loops.len().saturating_sub(1);
-    if count == 0 {
-        return Ok(());
-    }
-    text.extend_from_slice(if count == 1 {
+    let mut between: &[u8] = if count == 1 {
         b", in that of line "
     } else {
         b", in those of the lines "
-    })?;
-    for (at, around) in loops.iter().take(count).enumerate() {
-        if at > 0 {
-            text.extend_from_slice(b", ")?;
+    };
+    let mut told: usize = 0;
+    for around in loops {
+        if told == count {
+            return Ok(());
         }
-        push_number(text, around.line)?;
+        push_labelled(text, between, around.line)?;
+        between = b", ";
+        told = told.saturating_add(1);
     }
     Ok(())
 }

@@ -1,10 +1,11 @@
 // Two locks that threads take in two orders, in a run that has ended all the same.
 
+use crate::circles::push_order;
 use crate::statements::statements_of;
 use crate::words::{at, put};
 use gp_base::{LockNo, ThreadNo};
 use one_thread::Step;
-use run_views::{push_labelled, push_lock};
+use run_views::push_labelled;
 use std::alloc::{AllocError, Global};
 use std::collections::BTreeMap;
 use task_ast::{Head, Program, SyncOp, What};
@@ -198,19 +199,17 @@ fn may_turn(alloc: Global, program: &Program) -> Result<bool, AllocError> {
     }
 }
 
-// Appends that a thread takes one lock before another, in which line.
+// Appends after a word that a thread takes one lock before another, in which line.
 fn push_taking(
     text: &mut Vec<u8>,
     heads: &[Head],
+    word: &[u8],
     taking: Taking,
     before: LockNo,
     after: LockNo,
 ) -> Result<(), AllocError> {
-    push_labelled(text, b"thread ", taking.thread.0)?;
-    text.extend_from_slice(b" takes ")?;
-    push_lock(text, heads, before)?;
-    text.extend_from_slice(b" before ")?;
-    push_lock(text, heads, after)?;
+    let thread = u64::from(taking.thread.0);
+    push_order(text, heads, word, thread, before, after)?;
     push_labelled(text, b", in line ", taking.line)
 }
 
@@ -229,9 +228,13 @@ pub fn push_crossing(
         return Ok(());
     };
     let heads = program.heads.as_slice();
-    text.extend_from_slice(b"hint: ")?;
-    push_taking(text, heads, crossing.first, crossing.low, crossing.high)?;
-    text.extend_from_slice(b", and ")?;
-    push_taking(text, heads, crossing.second, crossing.high, crossing.low)?;
+    let Crossing {
+        first,
+        second,
+        low,
+        high,
+    } = crossing;
+    push_taking(text, heads, b"hint: thread ", first, low, high)?;
+    push_taking(text, heads, b", and thread ", second, high, low)?;
     text.extend_from_slice(b": this run ended, and with other rows each may wait for the other\n")
 }

@@ -7,9 +7,10 @@ use crate::unset::{GIVEN_BACK, Variable};
 use crate::words::{at, put};
 use gp_base::{Name, ThreadNo};
 use one_thread::{Plainly, Reckon, Step};
-use run_views::{push_between, push_labelled};
 use std::alloc::{AllocError, Global};
-use task_ast::{Env, Expr, Program, SyncOp, What, eval_d};
+use task_ast::{Env, Expr, Program, Stmt, SyncOp, What, eval_d};
+use text_pieces::Piece::{Number, Word};
+use text_pieces::push_pieces;
 
 const RESULT: Variable<'static> = Variable {
     name: GIVEN_BACK,
@@ -24,6 +25,20 @@ struct Texts {
     setting: Vec<u32>,
 }
 
+impl Texts {
+    // One task more, by its statements.
+    fn note(&mut self, statements: &[&Stmt]) -> Result<(), AllocError> {
+        let setting = RESULT.setting_line(statements).unwrap_or(0);
+        self.setting.push(setting)?;
+        for stmt in statements {
+            if let What::Join(_, Some(_)) = &stmt.what {
+                put(&mut self.taking, stmt.line as usize, stmt.line)?;
+            }
+        }
+        Ok(())
+    }
+}
+
 // What is known of a program.
 fn texts_of(alloc: Global, program: &Program) -> Result<Texts, AllocError> {
     let mut texts = Texts {
@@ -31,15 +46,7 @@ fn texts_of(alloc: Global, program: &Program) -> Result<Texts, AllocError> {
         setting: Vec::new(alloc),
     };
     for task in program.tasks.as_slice() {
-        let statements = statements_of(alloc, task)?;
-        texts
-            .setting
-            .push(RESULT.setting_line(&statements).unwrap_or(0))?;
-        for stmt in &statements {
-            if let What::Join(_, Some(_)) = &stmt.what {
-                put(&mut texts.taking, stmt.line as usize, stmt.line)?;
-            }
-        }
+        texts.note(&statements_of(alloc, task)?)?;
     }
     Ok(texts)
 }
@@ -106,30 +113,40 @@ impl Joins {
 
 // Appends how what a thread gives back is lost.
 fn push_loss(text: &mut Vec<u8>, thread: ThreadNo, loss: Loss) -> Result<(), AllocError> {
+    let thread = Number(u64::from(thread.0));
     match loss {
-        Loss::Joined { setting, joining } => {
-            push_labelled(text, b"hint: line ", joining)?;
-            push_labelled(text, b" joins thread ", thread.0)?;
-            push_between(
-                text,
-                b" without `into`, so the $ret of line ",
-                setting,
-                b" is lost\n",
-            )
-        }
-        Loss::Unjoined { setting } => {
-            push_labelled(text, b"hint: no join takes the $ret of line ", setting)?;
-            push_between(text, b" from thread ", thread.0, b"\n")
-        }
-        Loss::Unset { joining } => {
-            push_labelled(text, b"hint: line ", joining)?;
-            push_between(
-                text,
-                b" takes the $ret of thread ",
-                thread.0,
-                b", which nothing sets: it is 0\n",
-            )
-        }
+        Loss::Joined { setting, joining } => push_pieces(
+            text,
+            &[
+                Word(b"hint: line "),
+                Number(u64::from(joining)),
+                Word(b" joins thread "),
+                thread,
+                Word(b" without `into`, so the $ret of line "),
+                Number(u64::from(setting)),
+                Word(b" is lost\n"),
+            ],
+        ),
+        Loss::Unjoined { setting } => push_pieces(
+            text,
+            &[
+                Word(b"hint: no join takes the $ret of line "),
+                Number(u64::from(setting)),
+                Word(b" from thread "),
+                thread,
+                Word(b"\n"),
+            ],
+        ),
+        Loss::Unset { joining } => push_pieces(
+            text,
+            &[
+                Word(b"hint: line "),
+                Number(u64::from(joining)),
+                Word(b" takes the $ret of thread "),
+                thread,
+                Word(b", which nothing sets: it is 0\n"),
+            ],
+        ),
     }
 }
 
@@ -141,28 +158,37 @@ struct Lost {
     loss: Loss,
 }
 
+// The thread of this number with its task, where it loses what it gives back.
+fn lost_by(tasks: &Tasks, texts: &Texts, joins: &Joins, number: usize) -> Option<Lost> {
+    let thread = ThreadNo(u32::try_from(number).unwrap_or(0));
+    let task = tasks.number_of(thread)?;
+    let loss = joins.loss_of(number, at(&texts.setting, task as usize))?;
+    Some(Lost { thread, task, loss })
+}
+
+// Whether one of these threads is of a task.
+fn is_told(lost: &[Lost], task: u32) -> bool {
+    for other in lost {
+        if other.task == task {
+            return true;
+        }
+    }
+    false
+}
+
 // The first thread of each task that loses what it gives back.
 fn lost_of(
     alloc: Global,
-    program: &Program,
     tasks: &Tasks,
     texts: &Texts,
     joins: &Joins,
 ) -> Result<Vec<Lost>, AllocError> {
-    let mut told = Vec::from_elem(alloc, false, program.tasks.len())?;
     let mut lost = Vec::new(alloc);
     for number in 1..tasks.count() {
-        let thread = ThreadNo(u32::try_from(number).unwrap_or(0));
-        let Some(task) = tasks.number_of(thread) else {
-            continue;
-        };
-        let Some(told) = told.get_mut(task as usize) else {
-            continue;
-        };
-        let loss = joins.loss_of(number, at(&texts.setting, task as usize));
-        if let (Some(loss), false) = (loss, *told) {
-            lost.push(Lost { thread, task, loss })?;
-            *told = true;
+        if let Some(one) = lost_by(tasks, texts, joins, number) {
+            if !is_told(&lost, one.task) {
+                lost.push(one)?;
+            }
         }
     }
     Ok(lost)
@@ -182,19 +208,6 @@ impl Joins {
         }
         None
     }
-
-    // The threads that the join in a line takes.
-    fn taken_in(&self, alloc: Global, line: u32) -> Result<Vec<u32>, AllocError> {
-        let mut threads = Vec::new(alloc);
-        let mut thread: u32 = 0;
-        for other in self.taken.as_slice() {
-            if *other == line {
-                threads.push(thread)?;
-            }
-            thread = thread.saturating_add(1);
-        }
-        Ok(threads)
-    }
 }
 
 // A loss, and the join that takes what other threads of the task give back, if there is one in a loop.
@@ -213,18 +226,35 @@ fn told_of<'a>(
     joins: &Joins,
     lost: Lost,
 ) -> Result<Told<'a>, AllocError> {
-    let mut taking = Vec::new(alloc);
     let line = match lost.loss {
         Loss::Unjoined { .. } => joins.line_of(tasks, lost.task),
         Loss::Joined { .. } | Loss::Unset { .. } => None,
     };
-    if let Some(line) = line {
-        let threads = joins.taken_in(alloc, line)?;
-        if let Some(found) = Taking::new(alloc, program, order, tasks, line, threads)? {
-            taking.push(found)?;
-        }
+    let found = match line {
+        Some(line) => Taking::new(alloc, program, order, tasks, line, &joins.taken)?,
+        None => None,
+    };
+    let mut taking = Vec::new(alloc);
+    if let Some(found) = found {
+        taking.push(found)?;
     }
     Ok(Told { lost, taking })
+}
+
+// These losses, each with the join that is told with it.
+fn all_told<'a>(
+    alloc: Global,
+    program: &'a Program,
+    order: &'a [Step],
+    tasks: &Tasks,
+    joins: &Joins,
+    lost: &[Lost],
+) -> Result<Vec<Told<'a>>, AllocError> {
+    let mut told = Vec::new(alloc);
+    for lost in lost {
+        told.push(told_of(alloc, program, order, tasks, joins, *lost)?)?;
+    }
+    Ok(told)
 }
 
 /// How what threads give back is lost in a run that has ended, once for each task: a join takes it that it is not set for, or
@@ -245,10 +275,8 @@ impl<'a> Results<'a> {
     ) -> Result<Results<'a>, AllocError> {
         let texts = texts_of(alloc, program)?;
         let joins = joins_of(alloc, order, &texts)?;
-        let mut told = Vec::new(alloc);
-        for lost in &lost_of(alloc, program, tasks, &texts, &joins)? {
-            told.push(told_of(alloc, program, order, tasks, &joins, *lost)?)?;
-        }
+        let lost = lost_of(alloc, tasks, &texts, &joins)?;
+        let told = all_told(alloc, program, order, tasks, &joins, &lost)?;
         Ok(Results { told, line: 0 })
     }
 

@@ -69,6 +69,17 @@ fn put_settings<'a>(
     Ok(())
 }
 
+// The lines of these loops that set the control variables of their conditions.
+fn all_settings<'a>(alloc: Global, loops: &[Loop<'a>]) -> Result<Vec<Setting<'a>>, AllocError> {
+    let mut settings = Vec::new(alloc);
+    let mut place: usize = 0;
+    for around in loops {
+        put_settings(alloc, &mut settings, place, *around)?;
+        place = place.saturating_add(1);
+    }
+    Ok(settings)
+}
+
 impl<'a> LoopTurns<'a> {
     /// No subthread has begun yet. The error is that memory is out.
     pub fn new(
@@ -77,13 +88,9 @@ impl<'a> LoopTurns<'a> {
         thread: ThreadNo,
         loops: &[Loop<'a>],
     ) -> Result<LoopTurns<'a>, AllocError> {
-        let mut settings = Vec::new(alloc);
-        for (place, around) in loops.iter().enumerate() {
-            put_settings(alloc, &mut settings, place, *around)?;
-        }
         Ok(LoopTurns {
             turns: Turns::new(alloc, order, thread, loops)?,
-            settings,
+            settings: all_settings(alloc, loops)?,
             thread,
             order,
             begun: 0,

@@ -1,12 +1,13 @@
 // From which records the values come that settles put into control variables.
 
 use crate::settings::Setting;
-use crate::statements::{is_among, put_registers, statements_of};
+use crate::statements::{is_among, put_name, put_registers, statements_of};
 use crate::words::{push_lines, put_once};
 use gp_base::Name;
-use run_views::push_labelled;
 use std::alloc::{AllocError, Global};
 use task_ast::{Program, Stmt, TaskText, What};
+use text_pieces::Piece::{Number, Word};
+use text_pieces::push_pieces;
 
 // How often the variables are followed from which what is settled is computed.
 const MOST_FOLLOWED: usize = 2;
@@ -35,6 +36,20 @@ fn follow<'a>(names: &mut Vec<&'a Name>, statements: &[&'a Stmt]) -> Result<(), 
     Ok(())
 }
 
+// A data variable, and those from which it is computed.
+fn sources_of<'a>(
+    alloc: Global,
+    name: &'a Name,
+    statements: &[&'a Stmt],
+) -> Result<Vec<&'a Name>, AllocError> {
+    let mut names = Vec::new(alloc);
+    names.push(name)?;
+    for _ in 0..MOST_FOLLOWED {
+        follow(&mut names, statements)?;
+    }
+    Ok(names)
+}
+
 // The records that are read into one of these data variables, each once.
 fn records_into<'a>(
     alloc: Global,
@@ -44,8 +59,8 @@ fn records_into<'a>(
     let mut records = Vec::new(alloc);
     for stmt in statements {
         if let What::Read(record, _, into) = &stmt.what {
-            if is_among(names, into) && !is_among(&records, record) {
-                records.push(record)?;
+            if is_among(names, into) {
+                put_name(&mut records, record)?;
             }
         }
     }
@@ -97,42 +112,55 @@ fn writing_lines(alloc: Global, program: &Program, record: &Name) -> Result<Vec<
 
 // Appends which lines write a record.
 fn push_writing(text: &mut Vec<u8>, lines: &[u32]) -> Result<(), AllocError> {
-    text.extend_from_slice(b", which ")?;
-    match lines {
-        [] => text.extend_from_slice(b"nothing writes\n"),
-        [_] => {
-            push_lines(text, lines)?;
-            text.extend_from_slice(b" alone writes\n")
-        }
-        _ => {
-            push_lines(text, lines)?;
-            text.extend_from_slice(b" write\n")
-        }
+    if lines.is_empty() {
+        return text.extend_from_slice(b", which nothing writes\n");
     }
+    text.extend_from_slice(b", which ")?;
+    push_lines(text, lines)?;
+    text.extend_from_slice(if lines.len() == 1 {
+        b" alone writes\n"
+    } else {
+        b" write\n"
+    })
 }
 
-// Appends from which records the value comes that a line settles, and which lines write these; whether there are some.
-fn push_one(
+// Appends that a settle in a line goes by a record, and which lines read that into these variables and write it.
+fn push_record<'a>(
     alloc: Global,
     text: &mut Vec<u8>,
     program: &Program,
     statements: &[&Stmt],
     line: u32,
-    from: &Name,
+    record: &'a Name,
+    names: &[&Name],
+) -> Result<(), AllocError> {
+    push_pieces(
+        text,
+        &[
+            Word(b"hint: the settle in line "),
+            Number(u64::from(line)),
+            Word(b" goes by record "),
+            Word(record.as_slice()),
+            Word(b", read in "),
+        ],
+    )?;
+    push_lines(text, &reading_lines(alloc, statements, record, names)?)?;
+    push_writing(text, &writing_lines(alloc, program, record)?)
+}
+
+// Appends from which records the value comes that a line settles, and which lines write these; whether there are some.
+fn push_one<'a>(
+    alloc: Global,
+    text: &mut Vec<u8>,
+    program: &Program,
+    statements: &[&'a Stmt],
+    line: u32,
+    from: &'a Name,
 ) -> Result<bool, AllocError> {
-    let mut names = Vec::new(alloc);
-    names.push(from)?;
-    for _ in 0..MOST_FOLLOWED {
-        follow(&mut names, statements)?;
-    }
+    let names = sources_of(alloc, from, statements)?;
     let records = records_into(alloc, statements, &names)?;
     for record in &records {
-        push_labelled(text, b"hint: the settle in line ", line)?;
-        text.extend_from_slice(b" goes by record ")?;
-        text.extend_from_slice(record.as_slice())?;
-        text.extend_from_slice(b", read in ")?;
-        push_lines(text, &reading_lines(alloc, statements, record, &names)?)?;
-        push_writing(text, &writing_lines(alloc, program, record)?)?;
+        push_record(alloc, text, program, statements, line, record, &names)?;
     }
     Ok(!records.is_empty())
 }

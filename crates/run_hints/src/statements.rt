@@ -10,11 +10,7 @@ fn put_statements<'a>(all: &mut Vec<&'a Stmt>, block: &'a [Stmt]) -> Result<(), 
         all.push(stmt)?;
         match &stmt.what {
             What::While(_, body) => put_statements(all, body.as_slice())?,
-            What::If(_, first, second) => {
-                put_statements(all, first.as_slice())?;
-                put_statements(all, second.as_slice())?;
-            }
-            What::When(_, first, second) => {
+            What::If(_, first, second) | What::When(_, first, second) => {
                 put_statements(all, first.as_slice())?;
                 put_statements(all, second.as_slice())?;
             }
@@ -46,21 +42,23 @@ pub fn is_among(names: &[&Name], name: &Name) -> bool {
     false
 }
 
+/// Puts a name after others, unless it is one of them. The error is that memory is out.
+pub fn put_name<'a>(names: &mut Vec<&'a Name>, name: &'a Name) -> Result<(), AllocError> {
+    if !is_among(names, name) {
+        names.push(name)?;
+    }
+    Ok(())
+}
+
 /// Puts the control variables that an expression names after others, each once. The error is that memory is out.
 pub fn put_controls<'a>(names: &mut Vec<&'a Name>, e: &'a Expr) -> Result<(), AllocError> {
     match e {
-        Expr::Ctl(name) => {
-            if !is_among(names, name) {
-                names.push(name)?;
-            }
-            Ok(())
-        }
+        Expr::Ctl(name) => put_name(names, name),
         Expr::Cell(_, row, field) => {
             put_controls(names, row)?;
             put_controls(names, field)
         }
-        Expr::Neg(a) => put_controls(names, a),
-        Expr::Not(a) => put_controls(names, a),
+        Expr::Neg(a) | Expr::Not(a) => put_controls(names, a),
         Expr::Chain(first, links) => {
             put_controls(names, first)?;
             for link in links.as_slice() {
@@ -75,14 +73,8 @@ pub fn put_controls<'a>(names: &mut Vec<&'a Name>, e: &'a Expr) -> Result<(), Al
 /// Puts the data variables that an expression names after others, each once. The error is that memory is out.
 pub fn put_registers<'a>(names: &mut Vec<&'a Name>, e: &'a Expr) -> Result<(), AllocError> {
     match e {
-        Expr::Reg(name) => {
-            if !is_among(names, name) {
-                names.push(name)?;
-            }
-            Ok(())
-        }
-        Expr::Neg(a) => put_registers(names, a),
-        Expr::Not(a) => put_registers(names, a),
+        Expr::Reg(name) => put_name(names, name),
+        Expr::Neg(a) | Expr::Not(a) => put_registers(names, a),
         Expr::Chain(first, links) => {
             put_registers(names, first)?;
             for link in links.as_slice() {

@@ -5,6 +5,8 @@ use one_thread::Step;
 use run_views::push_labelled;
 use std::alloc::{AllocError, Global};
 use task_ast::{Param, Program, SyncOp, TaskText};
+use text_pieces::Piece::{Signed, Word};
+use text_pieces::push_pieces;
 
 /// The thread that a subthread forked, whose registers it writes beside its own.
 pub fn child_of(step: &Step) -> Option<ThreadNo> {
@@ -68,15 +70,40 @@ fn main_number(program: &Program) -> u32 {
 }
 
 /// Appends a variable with its value.
-pub fn push_variable(
+pub fn push_variable<'a>(
     text: &mut Vec<u8>,
-    between: &[u8],
-    name: &Name,
+    between: &'a [u8],
+    name: &'a Name,
     value: i64,
 ) -> Result<(), AllocError> {
-    text.extend_from_slice(between)?;
-    text.extend_from_slice(name.as_slice())?;
-    push_labelled(text, b" = ", value)
+    push_pieces(
+        text,
+        &[
+            Word(between),
+            Word(name.as_slice()),
+            Word(b" = "),
+            Signed(value),
+        ],
+    )
+}
+
+/// Appends variables with these values, the first after a word. The error is that memory is out.
+pub fn push_variables(
+    text: &mut Vec<u8>,
+    word: &[u8],
+    names: &[&Name],
+    values: &[i64],
+) -> Result<(), AllocError> {
+    let mut between = word;
+    let mut place: usize = 0;
+    for name in names {
+        if let Some(value) = values.get(place) {
+            push_variable(text, between, name, *value)?;
+        }
+        between = b", ";
+        place = place.saturating_add(1);
+    }
+    Ok(())
 }
 
 /// Appends the control variables of a thread as a line, where it has any.
@@ -132,10 +159,5 @@ pub fn push_values(
     if names.len() != values.len() {
         return Ok(());
     }
-    let mut between: &[u8] = b": ";
-    for (name, value) in names.iter().zip(values) {
-        push_variable(text, between, name, *value)?;
-        between = b", ";
-    }
-    Ok(())
+    push_variables(text, b": ", &names, values)
 }

@@ -2,13 +2,15 @@
 
 use crate::statements::statements_of;
 use crate::threads::{Tasks, child_of};
-use crate::words::{at, push_many, put};
+use crate::words::{at, push_counted, put};
 use gp_base::{Footprint, Loc, Name, ThreadNo};
 use one_thread::Step;
-use run_views::{push_labelled, push_record};
+use run_views::{push_between, push_record};
 use std::alloc::{AllocError, Global};
 use std::collections::BTreeSet;
 use task_ast::{Head, Program, SyncOp, What, natural};
+use text_pieces::Piece::{Number, Word};
+use text_pieces::push_pieces;
 
 // The tasks with the records that they only read, and that another task of the run writes, by the numbers of both; and of
 // each record cell its record.
@@ -95,22 +97,15 @@ fn named_in(alloc: Global, program: &Program, tasks: &Tasks) -> Result<RecordUse
     Ok(named)
 }
 
-// The records that tasks only read.
-fn lists_of(alloc: Global, program: &Program, tasks: &Tasks) -> Result<OnlyRead, AllocError> {
-    let named = named_in(alloc, program, tasks)?;
-    let mut lists = OnlyRead {
-        pairs: BTreeSet::new(alloc),
-        records: Vec::new(alloc),
-    };
+// The tasks with the records that they only read, and that another task writes.
+fn pairs_of(alloc: Global, named: &RecordUses) -> Result<BTreeSet<(u32, u32)>, AllocError> {
+    let mut pairs = BTreeSet::new(alloc);
     for pair in named.reads.iter() {
         if named.written.contains(&pair.1) && !named.writes.contains(pair) {
-            lists.pairs.insert(*pair)?;
+            pairs.insert(*pair)?;
         }
     }
-    if !lists.pairs.is_empty() {
-        lists.records = records_of(alloc, program.heads.as_slice())?;
-    }
-    Ok(lists)
+    Ok(pairs)
 }
 
 impl OnlyRead {
@@ -279,20 +274,46 @@ fn cells_of(
 fn push_one(
     text: &mut Vec<u8>,
     heads: &[Head],
-    cell: usize,
+    cell: u64,
     found: Unordered,
 ) -> Result<(), AllocError> {
-    push_labelled(text, b"hint: thread ", found.read.thread.0)?;
-    text.extend_from_slice(b" reads ")?;
-    push_record(text, heads, cell as u64)?;
-    push_labelled(text, b" after line ", found.read.line)?;
-    push_labelled(text, b", and thread ", found.written.thread.0)?;
-    push_labelled(
+    push_between(text, b"hint: thread ", found.read.thread.0, b" reads ")?;
+    push_record(text, heads, cell)?;
+    push_pieces(
         text,
-        b" has a write of it later, after line ",
-        found.written.line,
-    )?;
-    text.extend_from_slice(b": no join or barrier orders the two, only their turns")
+        &[
+            Word(b" after line "),
+            Number(u64::from(found.read.line)),
+            Word(b", and thread "),
+            Number(u64::from(found.written.thread.0)),
+            Word(b" has a write of it later, after line "),
+            Number(u64::from(found.written.line)),
+            Word(b": no join or barrier orders the two, only their turns"),
+        ],
+    )
+}
+
+// Appends the first of these cells that a thread reads and another writes later, and how many more there are.
+fn push_first(text: &mut Vec<u8>, heads: &[Head], cells: &[CellReads]) -> Result<(), AllocError> {
+    let mut number: u64 = 0;
+    let mut count: u64 = 0;
+    for cell in cells {
+        if let Some(found) = cell.found {
+            if count == 0 {
+                push_one(text, heads, number, found)?;
+            }
+            count = count.saturating_add(1);
+        }
+        number = number.saturating_add(1);
+    }
+    if count == 0 {
+        return Ok(());
+    }
+    let more = count.saturating_sub(1);
+    if more == 0 {
+        return text.extend_from_slice(b"\n");
+    }
+    push_counted(text, b"; so it is with ", more, b" more cell", b"\n")
 }
 
 /// Appends the first record cell that a thread reads whose task does not write that record, and that another thread writes
@@ -305,27 +326,15 @@ pub fn push_unordered(
     order: &[Step],
     tasks: &Tasks,
 ) -> Result<(), AllocError> {
-    let lists = lists_of(alloc, program, tasks)?;
-    if lists.pairs.is_empty() {
+    let pairs = pairs_of(alloc, &named_in(alloc, program, tasks)?)?;
+    if pairs.is_empty() {
         return Ok(());
     }
+    let heads = program.heads.as_slice();
+    let lists = OnlyRead {
+        records: records_of(alloc, heads)?,
+        pairs,
+    };
     let cells = cells_of(alloc, order, tasks, &lists)?;
-    let mut count: u64 = 0;
-    for (number, cell) in cells.cells.iter().enumerate() {
-        if let Some(found) = cell.found {
-            if count == 0 {
-                push_one(text, program.heads.as_slice(), number, found)?;
-            }
-            count = count.saturating_add(1);
-        }
-    }
-    if count > 1 {
-        text.extend_from_slice(b"; so it is with ")?;
-        push_many(text, count.saturating_sub(1), b" more cell")?;
-    }
-    if count > 0 {
-        text.extend_from_slice(b"\n")
-    } else {
-        Ok(())
-    }
+    push_first(text, heads, &cells.cells)
 }

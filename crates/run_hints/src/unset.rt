@@ -2,11 +2,12 @@
 
 use crate::statements::statements_of;
 use crate::threads::Tasks;
-use crate::words::push_many;
+use crate::words::push_counted;
 use gp_base::Name;
-use run_views::push_labelled;
 use std::alloc::{AllocError, Global};
 use task_ast::{Atom, Expr, Param, Program, Stmt, TaskText, What};
+use text_pieces::Piece::{Number, Word};
+use text_pieces::push_pieces;
 
 // How many variables of a program are told at most.
 const MOST_UNSET: u64 = 8;
@@ -54,8 +55,7 @@ impl<'a> Variable<'a> {
             Expr::Ctl(name) => self.is_control(name),
             Expr::Reg(name) => self.is_register(name),
             Expr::Cell(_, row, field) => self.is_in(row) || self.is_in(field),
-            Expr::Neg(a) => self.is_in(a),
-            Expr::Not(a) => self.is_in(a),
+            Expr::Neg(a) | Expr::Not(a) => self.is_in(a),
             Expr::Chain(first, links) => {
                 if self.is_in(first) {
                     return true;
@@ -90,14 +90,10 @@ impl<'a> Variable<'a> {
     // Whether a statement reads it, outside of its blocks.
     fn is_read_by(self, what: &What) -> bool {
         match what {
-            What::SetCtl(_, e) => self.is_in(e),
-            What::SetReg(_, e) => self.is_in(e),
-            What::While(e, _) => self.is_in(e),
-            What::If(e, _, _) => self.is_in(e),
-            What::When(e, _, _) => self.is_in(e),
-            What::Join(e, _) => self.is_in(e),
-            What::Lock(_, index) => self.is_index(index),
-            What::Unlock(_, index) => self.is_index(index),
+            What::SetCtl(_, e) | What::SetReg(_, e) => self.is_in(e),
+            What::While(e, _) | What::Join(e, _) => self.is_in(e),
+            What::If(e, _, _) | What::When(e, _, _) => self.is_in(e),
+            What::Lock(_, index) | What::Unlock(_, index) => self.is_index(index),
             What::Read(_, index, _) => self.is_index(index),
             What::Write(_, index, e) => self.is_index(index) || self.is_in(e),
             What::Fork(_, es, _) => self.is_among(es.as_slice()),
@@ -130,8 +126,11 @@ impl<'a> Variable<'a> {
         None
     }
 
-    // The line of the first of these statements that reads it.
-    fn reading_line(self, statements: &[&Stmt]) -> Option<u32> {
+    // The line of the first of these statements that reads it, where none sets it.
+    fn unset_line(self, statements: &[&Stmt]) -> Option<u32> {
+        if self.setting_line(statements).is_some() {
+            return None;
+        }
         for stmt in statements {
             if self.is_read_by(&stmt.what) {
                 return Some(stmt.line);
@@ -157,15 +156,21 @@ fn variables_of<'a>(alloc: Global, task: &'a TaskText) -> Result<Vec<Variable<'a
 }
 
 // Appends that a line reads a variable that nothing sets.
-fn push_one(text: &mut Vec<u8>, line: u32, variable: Variable<'_>) -> Result<(), AllocError> {
-    push_labelled(text, b"hint: line ", line)?;
-    text.extend_from_slice(if variable.is_data {
-        b" reads $"
-    } else {
-        b" reads "
-    })?;
-    text.extend_from_slice(variable.name)?;
-    text.extend_from_slice(b", which nothing sets: it is 0\n")
+fn push_one<'a>(text: &mut Vec<u8>, line: u32, variable: Variable<'a>) -> Result<(), AllocError> {
+    push_pieces(
+        text,
+        &[
+            Word(b"hint: line "),
+            Number(u64::from(line)),
+            Word(if variable.is_data {
+                b" reads $"
+            } else {
+                b" reads "
+            }),
+            Word(variable.name),
+            Word(b", which nothing sets: it is 0\n"),
+        ],
+    )
 }
 
 // Appends the variables of a task that are read and that nothing sets, and gives how many were told, with those before.
@@ -178,10 +183,7 @@ fn push_task(
     let statements = statements_of(alloc, task)?;
     let mut told = before;
     for variable in &variables_of(alloc, task)? {
-        if variable.setting_line(&statements).is_some() {
-            continue;
-        }
-        if let Some(line) = variable.reading_line(&statements) {
+        if let Some(line) = variable.unset_line(&statements) {
             if told < MOST_UNSET {
                 push_one(text, line, *variable)?;
             }
@@ -210,7 +212,12 @@ pub fn push_unset(
     if told <= MOST_UNSET {
         return Ok(());
     }
-    text.extend_from_slice(b"hint: nothing sets ")?;
-    push_many(text, told.saturating_sub(MOST_UNSET), b" more variable")?;
-    text.extend_from_slice(b" that are read\n")
+    let more = told.saturating_sub(MOST_UNSET);
+    push_counted(
+        text,
+        b"hint: nothing sets ",
+        more,
+        b" more variable",
+        b" that are read\n",
+    )
 }

@@ -1,6 +1,6 @@
 // Threads that wait alike.
 
-use crate::words::push_many;
+use crate::words::{push_counted, push_stretch};
 use gp_base::{LockNo, Name};
 use one_thread::Standing;
 use run_views::{push_between, push_labelled, push_lock};
@@ -98,33 +98,33 @@ fn groups_of<'a>(
 ) -> Result<(Vec<Group<'a>>, usize), AllocError> {
     let mut groups = Vec::new(alloc);
     let mut count: usize = 0;
-    for (thread, next) in nexts.iter().enumerate() {
+    let mut thread: usize = 0;
+    for next in nexts {
         if let Some(next) = next {
             if !next.sync.is_end() {
                 put_thread(alloc, &mut groups, thread, next)?;
                 count = count.saturating_add(1);
             }
         }
+        thread = thread.saturating_add(1);
     }
     Ok((groups, count))
 }
 
 // Appends the numbers of threads.
 fn push_stretches(text: &mut Vec<u8>, group: &Group<'_>) -> Result<(), AllocError> {
+    let mut left = group.count;
     let mut told: usize = 0;
     let mut between: &[u8] = b"threads ";
-    for stretch in group.stretches.iter().take(MOST_STRETCHES) {
-        push_labelled(text, between, stretch.from)?;
-        if stretch.from < stretch.to {
-            push_labelled(text, b" to ", stretch.to)?;
+    for stretch in group.stretches.as_slice() {
+        if told == MOST_STRETCHES {
+            return push_between(text, b" and ", left, b" more");
         }
-        told = told
-            .saturating_add(1)
-            .saturating_add(stretch.to.saturating_sub(stretch.from));
+        push_stretch(text, between, stretch.from as u64, stretch.to as u64)?;
+        let count = stretch.to.saturating_sub(stretch.from).saturating_add(1);
+        left = left.saturating_sub(count);
+        told = told.saturating_add(1);
         between = b", ";
-    }
-    if told < group.count {
-        push_between(text, b" and ", group.count.saturating_sub(told), b" more")?;
     }
     Ok(())
 }
@@ -163,6 +163,21 @@ fn push_owned(
     }
 }
 
+// Appends for what threads wait.
+fn push_wanted(
+    text: &mut Vec<u8>,
+    heads: &[Head],
+    standing: &Standing,
+    sync: &SyncOp,
+) -> Result<(), AllocError> {
+    match sync {
+        SyncOp::Lock(lock) => push_owned(text, heads, standing, *lock),
+        SyncOp::Join(thread) => push_between(text, b"thread ", *thread, b" to end"),
+        SyncOp::Barrier(number) => push_barrier(text, heads, *number),
+        _ => text.extend_from_slice(b"their turn"),
+    }
+}
+
 // Appends the line of a group.
 fn push_group(
     text: &mut Vec<u8>,
@@ -171,14 +186,8 @@ fn push_group(
     group: &Group<'_>,
 ) -> Result<(), AllocError> {
     push_stretches(text, group)?;
-    push_labelled(text, b" line ", group.next.line)?;
-    text.extend_from_slice(b" wait for ")?;
-    match &group.next.sync {
-        SyncOp::Lock(lock) => push_owned(text, heads, standing, *lock)?,
-        SyncOp::Join(thread) => push_between(text, b"thread ", *thread, b" to end")?,
-        SyncOp::Barrier(number) => push_barrier(text, heads, *number)?,
-        _ => text.extend_from_slice(b"their turn")?,
-    }
+    push_between(text, b" line ", group.next.line, b" wait for ")?;
+    push_wanted(text, heads, standing, &group.next.sync)?;
     text.extend_from_slice(b"\n")
 }
 
@@ -220,35 +229,61 @@ pub fn push_alike(
         b" threads these wait alike:\n",
     )?;
     let told = push_groups(text, heads, standing, &groups)?;
-    if told < count {
-        text.extend_from_slice(b"and ")?;
-        push_many(text, count.saturating_sub(told) as u64, b" more thread")?;
-        text.extend_from_slice(b"\n")?;
+    let more = count.saturating_sub(told) as u64;
+    if more == 0 {
+        return Ok(());
     }
-    Ok(())
+    push_counted(text, b"and ", more, b" more thread", b"\n")
 }
 
 // The line in which a thread waits for others, at a join or a barrier.
 fn meeting_line(standing: &Standing, thread: usize) -> Option<u32> {
     let next = standing.nexts.get(thread)?.as_ref()?;
     match next.sync {
-        SyncOp::Join(_) => Some(next.line),
-        SyncOp::Barrier(_) => Some(next.line),
+        SyncOp::Join(_) | SyncOp::Barrier(_) => Some(next.line),
         _ => None,
     }
 }
 
-// How many threads wait for a lock.
-fn waiting_for(standing: &Standing, wanted: LockNo) -> usize {
-    let mut count: usize = 0;
+// Whether a thread waits for a lock.
+fn is_wanted(standing: &Standing, wanted: LockNo) -> bool {
     for next in standing.nexts.as_slice() {
         if let Some(next) = next {
             if matches!(next.sync, SyncOp::Lock(lock) if lock.0 == wanted.0) {
-                count = count.saturating_add(1);
+                return true;
             }
         }
     }
-    count
+    false
+}
+
+// The thread that has a lock, and the line in which it waits for others, where another waits for the lock meanwhile.
+fn keeping(standing: &Standing, owner: Option<usize>, lock: LockNo) -> Option<(usize, u32)> {
+    let thread = owner?;
+    let line = meeting_line(standing, thread)?;
+    if is_wanted(standing, lock) {
+        Some((thread, line))
+    } else {
+        None
+    }
+}
+
+// Appends that a thread keeps a lock while it waits in a line.
+fn push_keeping(
+    text: &mut Vec<u8>,
+    heads: &[Head],
+    thread: usize,
+    lock: LockNo,
+    line: u32,
+) -> Result<(), AllocError> {
+    push_between(text, b"hint: thread ", thread, b" keeps ")?;
+    push_lock(text, heads, lock)?;
+    push_between(
+        text,
+        b" while it waits in line ",
+        line,
+        b": give the lock back before\n",
+    )
 }
 
 /// Appends the first threads that keep a lock for which others wait, while they wait themselves at a join or a barrier. The
@@ -262,25 +297,14 @@ pub fn push_kept(
     let mut number: u32 = 0;
     for owner in standing.owners.as_slice() {
         let lock = LockNo(number);
-        number = number.saturating_add(1);
-        let Some(owner) = owner else {
-            continue;
-        };
-        let Some(line) = meeting_line(standing, *owner) else {
-            continue;
-        };
-        if told < MOST_KEPT && waiting_for(standing, lock) > 0 {
-            push_labelled(text, b"hint: thread ", *owner)?;
-            text.extend_from_slice(b" keeps ")?;
-            push_lock(text, heads, lock)?;
-            push_between(
-                text,
-                b" while it waits in line ",
-                line,
-                b": give the lock back before\n",
-            )?;
+        if let Some((thread, line)) = keeping(standing, *owner, lock) {
+            if told == MOST_KEPT {
+                return Ok(());
+            }
+            push_keeping(text, heads, thread, lock, line)?;
             told = told.saturating_add(1);
         }
+        number = number.saturating_add(1);
     }
     Ok(())
 }

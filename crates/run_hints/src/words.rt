@@ -1,16 +1,38 @@
 // Numbers with what they count, numbers together, and numbers by their places.
 
-use run_views::{push_between, push_labelled, push_number};
+use run_views::push_between;
 use std::alloc::{AllocError, Global};
+use text_pieces::Piece::{Number, Word};
+use text_pieces::push_pieces;
 
 /// Appends how many of a thing there are. The error is that memory is out.
 pub fn push_many(text: &mut Vec<u8>, count: u64, thing: &[u8]) -> Result<(), AllocError> {
-    push_number(text, count)?;
-    text.extend_from_slice(thing)?;
-    if count != 1 {
-        text.extend_from_slice(b"s")?;
-    }
-    Ok(())
+    push_counted(text, b"", count, thing, b"")
+}
+
+/// Appends how many of a thing there are between two words. The error is that memory is out.
+pub fn push_counted<'a>(
+    text: &mut Vec<u8>,
+    before: &'a [u8],
+    count: u64,
+    thing: &'a [u8],
+    after: &'a [u8],
+) -> Result<(), AllocError> {
+    push_pieces(
+        text,
+        &[
+            Word(before),
+            Number(count),
+            Word(thing),
+            Word(plural(count)),
+            Word(after),
+        ],
+    )
+}
+
+/// What the word for a thing ends in where there are so many.
+pub fn plural(count: u64) -> &'static [u8] {
+    if count == 1 { b"" } else { b"s" }
 }
 
 /// Appends how often something was. The error is that memory is out.
@@ -61,49 +83,81 @@ pub fn push_lines(text: &mut Vec<u8>, lines: &[u32]) -> Result<(), AllocError> {
     } else {
         b"the lines "
     };
-    for line in lines.iter().take(MOST_TOGETHER) {
-        push_labelled(text, between, *line)?;
+    let mut told: usize = 0;
+    for line in lines {
+        if told == MOST_TOGETHER {
+            return text.extend_from_slice(b", and so on");
+        }
+        push_pieces(text, &[Word(between), Number(u64::from(*line))])?;
         between = b", ";
+        told = told.saturating_add(1);
     }
-    if lines.len() > MOST_TOGETHER {
-        text.extend_from_slice(b", and so on")?;
+    Ok(())
+}
+
+// Lets the last of the stretches go on to a number, or begins one.
+fn add_number(stretches: &mut Vec<(u32, u32)>, number: u32) -> Result<(), AllocError> {
+    let last = stretches.len().saturating_sub(1);
+    if let Some(stretch) = stretches.get_mut(last) {
+        if stretch.1.saturating_add(1) == number {
+            stretch.1 = number;
+            return Ok(());
+        }
     }
+    stretches.push((number, number))?;
     Ok(())
 }
 
 // The stretches of numbers that follow one another, each by its first and its last.
 fn stretches_of(alloc: Global, numbers: &[u32]) -> Result<Vec<(u32, u32)>, AllocError> {
-    let mut stretches: Vec<(u32, u32)> = Vec::new(alloc);
+    let mut stretches = Vec::new(alloc);
     for number in numbers {
-        let last = stretches.len().saturating_sub(1);
-        if let Some(stretch) = stretches.get_mut(last) {
-            if stretch.1.saturating_add(1) == *number {
-                stretch.1 = *number;
-                continue;
-            }
-        }
-        stretches.push((*number, *number))?;
+        add_number(&mut stretches, *number)?;
     }
     Ok(stretches)
 }
 
+/// Appends the first and the last of a stretch after a word. The error is that memory is out.
+pub fn push_stretch(
+    text: &mut Vec<u8>,
+    before: &[u8],
+    first: u64,
+    last: u64,
+) -> Result<(), AllocError> {
+    if first == last {
+        return push_pieces(text, &[Word(before), Number(first)]);
+    }
+    push_pieces(
+        text,
+        &[Word(before), Number(first), Word(b" to "), Number(last)],
+    )
+}
+
+// Appends these stretches, or the first of them, the first of all after a word.
+fn push_stretches(
+    text: &mut Vec<u8>,
+    word: &[u8],
+    stretches: &[(u32, u32)],
+) -> Result<(), AllocError> {
+    let mut between = word;
+    let mut told: usize = 0;
+    for stretch in stretches {
+        if told == MOST_TOGETHER {
+            return text.extend_from_slice(b", and so on");
+        }
+        push_stretch(text, between, u64::from(stretch.0), u64::from(stretch.1))?;
+        between = b", ";
+        told = told.saturating_add(1);
+    }
+    Ok(())
+}
+
 /// Appends threads by their numbers, which rise, those that follow one another together. The error is that memory is out.
 pub fn push_threads(alloc: Global, text: &mut Vec<u8>, threads: &[u32]) -> Result<(), AllocError> {
-    let stretches = stretches_of(alloc, threads)?;
-    let mut between: &[u8] = if threads.len() == 1 {
+    let word: &[u8] = if threads.len() == 1 {
         b"thread "
     } else {
         b"threads "
     };
-    for stretch in stretches.iter().take(MOST_TOGETHER) {
-        push_labelled(text, between, stretch.0)?;
-        if stretch.1 != stretch.0 {
-            push_labelled(text, b" to ", stretch.1)?;
-        }
-        between = b", ";
-    }
-    if stretches.len() > MOST_TOGETHER {
-        text.extend_from_slice(b", and so on")?;
-    }
-    Ok(())
+    push_stretches(text, word, &stretches_of(alloc, threads)?)
 }
