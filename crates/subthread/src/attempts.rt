@@ -8,6 +8,7 @@ ghost use Rattle.task_ast.specs.SyncOps.{IsNumbered};
 ghost use Rattle.subthread.specs.Tasks.{with_bundles, under_of};
 ghost use Rattle.subthread.specs.inner.Running.{IsTask, AreAtHand};
 ghost use Rattle.subthread.specs.inner.Leaving.{IsGroundOf, actions_at};
+ghost use Rattle.subthread.specs.inner.Hand.{written_to};
 ghost use Rattle.subthread.specs.inner.Attempts.{cursor_at, IsWalk, IsSame, IsSameControl, IsSameData};
 
 use crate::cells::{Change, sum_of};
@@ -138,6 +139,25 @@ fn same_data<'a>(doing: &Doing<'a>, left: &Left) -> bool
         && same_lines(doing.lines.as_slice(), left.lines.as_slice())
 }
 
+// The bundles that came to be at hand, as they came.
+fn taken_back<'a>(doing: Doing<'a>) -> Seq<Bundle>
+    ensures { result ≡ doing.entry.cells.came }
+{
+    let Doing { cells, .. } = doing;
+    cells.take_back()
+}
+
+// Where a task stands, and the registers that it was given, for a walk to change. The error is that memory is out.
+fn copies(alloc: Global, task: &Task) -> Result<(Cursor, Nums), AllocError>
+    ensures cursor { IfOk result (λ copies. copies.0 ≡ cursor_at task.now) }
+    ensures regs { IfOk result (λ copies. copies.1 ≡ task.now.given.regs) }
+{
+    let ctl = task.ctl.copied(alloc)?;
+    let regs = Seq::from_slice(alloc, task.given.regs.as_slice())?;
+    let pc = task.at.pc as usize;
+    Ok((Cursor { pc, ctl }, regs))
+}
+
 // One walk of a task from its beginning; its bundles are handed over, and its steps are added. The error is that memory is
 // out, and has the bundles as they came.
 fn attempt<'a>(
@@ -158,15 +178,8 @@ fn attempt<'a>(
     ensures walk { IfOk result (IsWalk work.now (with_bundles ground.now.bundles.value task.now) ground.now) }
     ensures back { IfErr result (λ back. back ≡ ground.now.bundles.value) }
 {
-    let Ok(ctl) = task.ctl.copied(alloc) else {
+    let Ok((mut cursor, regs)) = copies(alloc, task) else {
         return Err(bundles);
-    };
-    let Ok(regs) = Seq::from_slice(alloc, task.given.regs.as_slice()) else {
-        return Err(bundles);
-    };
-    let mut cursor = Cursor {
-        pc: task.at.pc as usize,
-        ctl,
     };
     let mut doing = Doing {
         regs,
@@ -185,17 +198,17 @@ fn attempt<'a>(
                 foot,
             })
         }
-        Err(_) => Err(doing.cells.take_back()),
+        Err(_) => Err(taken_back(doing)),
     }
 }
 
-// The bundles with which a walk began, as they came.
-fn given_back<'a>(walk: Walk<'a>) -> Seq<Bundle>
+/// The bundles with which a walk began, as they came.
+pub fn given_back<'a>(walk: Walk<'a>) -> Seq<Bundle>
     ensures { result ≡ walk.entry.doing.cells.came }
 {
-    let Walk { doing, .. } = walk;
-    let Doing { cells, .. } = doing;
-    cells.take_back()
+    let Walk { doing, next, .. } = walk;
+    drop(next);
+    taken_back(doing)
 }
 
 // The summary of a walk with a bit turned, where a test says so.
@@ -212,17 +225,9 @@ fn disturbed(recheck: &Recheck, steps: u64, changes: &mut [Change]) -> u64 {
     }
 }
 
-// What a walk of a task left, and the bundles as they came. The error is that memory is out, or that the cells are not
-// those that came and that the walk wrote, which is noted; it has the bundles.
-fn part<'a>(
-    alloc: Global,
-    work: &Work,
-    task: &Task,
-    sum: i64,
-    walk: Walk<'a>,
-) -> Result<(Seq<Bundle>, Left), Seq<Bundle>>
-    ensures came { IfOk result (λ parts. parts.0 ≡ walk.entry.doing.cells.came) }
-    ensures back { IfErr result (λ bundles. bundles ≡ walk.entry.doing.cells.came) }
+// What is kept of a walk with this summary, and the bundles as they came.
+fn left_of<'a>(walk: Walk<'a>, steps: u64, changes: Vec<Change>) -> (Seq<Bundle>, Left)
+    ensures { result.0 ≡ walk.entry.doing.cells.came }
 {
     let Walk {
         cursor,
@@ -235,19 +240,8 @@ fn part<'a>(
         child,
         cells,
         lines,
-        steps,
+        ..
     } = doing;
-    let Ok(mut changes) = cells.changes(alloc) else {
-        return Err(cells.take_back());
-    };
-    let steps = disturbed(&work.recheck, steps, &mut changes);
-    let kept = cells.is_kept(sum, &changes);
-    let bundles = cells.take_back();
-    if !kept {
-        work.recheck.note(task.pos);
-        work.recheck.note_disagreed(task.pos);
-        return Err(bundles);
-    }
     let left = Left {
         cursor,
         regs,
@@ -258,7 +252,43 @@ fn part<'a>(
         next,
         foot,
     };
-    Ok((bundles, left))
+    (cells.take_back(), left)
+}
+
+// What a walk of a task left, and the bundles as they came. The error is that memory is out, or that the cells are not
+// those that came and that the walk wrote, which is noted; it has the bundles.
+fn part<'a>(
+    alloc: Global,
+    work: &Work,
+    task: &Task,
+    sum: i64,
+    walk: Walk<'a>,
+) -> Result<(Seq<Bundle>, Left), Seq<Bundle>>
+    ensures came { IfOk result (λ parts. parts.0 ≡ walk.entry.doing.cells.came) }
+    ensures back { IfErr result (λ bundles. bundles ≡ walk.entry.doing.cells.came) }
+{
+    let Ok(mut changes) = walk.doing.cells.changes(alloc) else {
+        return Err(given_back(walk));
+    };
+    let steps = disturbed(&work.recheck, walk.doing.steps, &mut changes);
+    if walk.doing.cells.is_kept(sum, &changes) {
+        Ok(left_of(walk, steps, changes))
+    } else {
+        work.recheck.note(task.pos);
+        work.recheck.note_disagreed(task.pos);
+        Err(given_back(walk))
+    }
+}
+
+// Whether a walk, which made these changes, left what another one did, and no other cells.
+fn is_like_by<'a>(changes: &[Change], sum: i64, walk: &Walk<'a>, left: &Left) -> bool
+    requires { map written_to changes.now ≡ walk.now.doing.cells.written }
+    ensures { IsTrue result → IsSame walk.now left.now }
+{
+    same_control(walk, left)
+        && same_data(&walk.doing, left)
+        && same_changes(changes, &left.changes)
+        && walk.doing.cells.is_kept(sum, changes)
 }
 
 // Whether a walk left what another one did, and no other cells. The error is that memory is out.
@@ -275,12 +305,7 @@ fn is_like<'a>(
         return Err(AllocError);
     }
     let changes = walk.doing.cells.changes(alloc)?;
-    Ok(
-        same_control(walk, left)
-            && same_data(&walk.doing, left)
-            && same_changes(&changes, &left.changes)
-            && walk.doing.cells.is_kept(sum, &changes),
-    )
+    Ok(is_like_by(&changes, sum, walk, left))
 }
 
 // Whether a walk left what one of these two did. The error is that memory is out.
@@ -310,11 +335,13 @@ fn agreed<'a>(
     ensures back { IfErr result (λ bundles. bundles ≡ third.entry.doing.cells.came) }
 {
     match is_like_either(alloc, &work.recheck, sum, &third, one, two) {
-        Ok(true) => return Ok(third),
-        Ok(false) => work.recheck.note_disagreed(task.pos),
-        Err(_) => {}
+        Ok(true) => Ok(third),
+        Ok(false) => {
+            work.recheck.note_disagreed(task.pos);
+            Err(given_back(third))
+        }
+        Err(_) => Err(given_back(third)),
     }
-    Err(given_back(third))
 }
 
 // A sum over the bundles of a task, where these and its registers are as they were left; where they are not, that is
@@ -329,6 +356,75 @@ fn sum_as_left(recheck: &Recheck, task: &Task, bundles: &[Bundle]) -> Option<i64
         recheck.note_damaged(task.pos);
     }
     sum
+}
+
+// The third walk of a task, whose first left this and whose second was not like it: it must be like one of them. The error
+// is as that of `compared`.
+fn decided<'a>(
+    alloc: Global,
+    work: &'a Work,
+    task: &Task,
+    ground: &Ground,
+    sum: i64,
+    second: Walk<'a>,
+    one: &Left,
+    steps: &mut u64,
+) -> Result<Walk<'a>, Seq<Bundle>>
+    requires numbered { IsNumbered task.now.begins.sync }
+    requires is { IsGroundOf work.now (with_bundles ground.now.bundles.value task.now) ground.now }
+    requires task { IsTask ground.now }
+    requires came { second.doing.cells.came ≡ ground.now.bundles.value }
+    requires rising { IsStrictlyIncreasing (map lock_in ground.now.bundles.value) }
+    requires sizes { All (λ (b : BundleThere). length b.cells ≡ length (under_lock (under_of work.now) b.lock)) ground.now.bundles.value }
+    requires named { AreAtHand ground.now (actions_at work.now (with_bundles ground.now.bundles.value task.now) (cursor_at task.now)) }
+    ensures walk { IfOk result (IsWalk work.now (with_bundles ground.now.bundles.value task.now) ground.now) }
+    ensures back { IfErr result (λ back. back ≡ ground.now.bundles.value) }
+{
+    let (bundles, two) = part(alloc, work, task, sum, second)?;
+    match attempt(alloc, work, task, ground, bundles, steps) {
+        Ok(third) => {
+            let walk = agreed(alloc, work, task, sum, third, one, &two);
+            drop(two);
+            walk
+        }
+        Err(bundles) => {
+            drop(two);
+            Err(bundles)
+        }
+    }
+}
+
+// The second walk of a task, whose first left this: where the two differ, a third must be like one of them. The error is
+// as that of `compared`.
+fn again<'a>(
+    alloc: Global,
+    work: &'a Work,
+    task: &Task,
+    ground: &Ground,
+    bundles: Seq<Bundle>,
+    sum: i64,
+    one: &Left,
+    steps: &mut u64,
+) -> Result<Walk<'a>, Seq<Bundle>>
+    requires numbered { IsNumbered task.now.begins.sync }
+    requires is { IsGroundOf work.now (with_bundles ground.now.bundles.value task.now) ground.now }
+    requires task { IsTask ground.now }
+    requires came { bundles ≡ ground.now.bundles.value }
+    requires rising { IsStrictlyIncreasing (map lock_in ground.now.bundles.value) }
+    requires sizes { All (λ (b : BundleThere). length b.cells ≡ length (under_lock (under_of work.now) b.lock)) ground.now.bundles.value }
+    requires named { AreAtHand ground.now (actions_at work.now (with_bundles ground.now.bundles.value task.now) (cursor_at task.now)) }
+    ensures walk { IfOk result (IsWalk work.now (with_bundles ground.now.bundles.value task.now) ground.now) }
+    ensures back { IfErr result (λ back. back ≡ ground.now.bundles.value) }
+{
+    let second = attempt(alloc, work, task, ground, bundles, steps)?;
+    match is_like(alloc, &work.recheck, sum, &second, one) {
+        Ok(true) => Ok(second),
+        Ok(false) => {
+            work.recheck.note(task.pos);
+            decided(alloc, work, task, ground, sum, second, one, steps)
+        }
+        Err(_) => Err(given_back(second)),
+    }
 }
 
 // A walk of a task, as `attempt`, made twice: where the two differ, a third must be like one of them. The error is that
@@ -357,15 +453,9 @@ fn compared<'a>(
     };
     let first = attempt(alloc, work, task, ground, bundles, steps)?;
     let (bundles, one) = part(alloc, work, task, sum, first)?;
-    let second = attempt(alloc, work, task, ground, bundles, steps)?;
-    match is_like(alloc, &work.recheck, sum, &second, &one) {
-        Ok(true) => return Ok(second),
-        Ok(false) => work.recheck.note(task.pos),
-        Err(_) => return Err(given_back(second)),
-    }
-    let (bundles, two) = part(alloc, work, task, sum, second)?;
-    let third = attempt(alloc, work, task, ground, bundles, steps)?;
-    agreed(alloc, work, task, sum, third, &one, &two)
+    let walk = again(alloc, work, task, ground, bundles, sum, &one, steps);
+    drop(one);
+    walk
 }
 
 // A walk of a task, where all that its walks read of feeds was as it came; where it was not, that is noted. The error has

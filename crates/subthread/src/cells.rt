@@ -133,9 +133,11 @@ fn restore(
 fn old_values(alloc: Global, olds: &BTreeMap<u32, i64>) -> Result<Vec<(RecNo, i64)>, AllocError>
     ensures { IfOk result (λ values. values.items ≡ olds.now.entries) }
 {
-    olds.iter()
-        .map(|(cell, value)| (RecNo(*cell), *value))
-        .collect(alloc)
+    let mut values = Vec::new(alloc);
+    'keeping: for (cell, value) in olds {
+        values.push((RecNo(*cell), *value))?;
+    }
+    Ok(values)
 }
 
 // The cell at a place, with this old value, as it now is.

@@ -79,6 +79,22 @@ fn control_body(
     }
 }
 
+// What comes next for a thread that stands here in a task, its place, and its control variables. The error is that memory is
+// out.
+fn left_at(next: Next, task: u32, cursor: Cursor) -> Result<(Next, At, Nums), AllocError>
+    ensures next { IfOk result (λ left. left.0 ≡ next) }
+    ensures at { IfOk result (λ left. left.1 ≡ record { task = task; pc = cursor.pc }) }
+    ensures ctl { IfOk result (λ left. left.2 ≡ cursor.ctl) }
+{
+    match narrow(cursor.pc) {
+        Ok(pc) => Ok((next, At { task, pc }, cursor.ctl)),
+        Err(halt) => {
+            drop(next);
+            Err(halt)
+        }
+    }
+}
+
 /// The control part of a subthread's run, without its data: what comes next for a thread that begins so, where it then
 /// stands, and its control variables. The error is that memory is out.
 pub fn control_of(
@@ -101,6 +117,5 @@ pub fn control_of(
     };
     begin_control(&begins.sync, &ground, child, &mut cursor);
     let next = control_body(alloc, &ground, work.turns, &mut cursor)?;
-    let pc = narrow(cursor.pc)?;
-    Ok((next, At { task: at.task, pc }, cursor.ctl))
+    left_at(next, at.task, cursor)
 }

@@ -12,7 +12,7 @@ ghost use Rattle.subthread.specs.Tasks.{with_bundles, under_of, task_of, Fits, I
 ghost use Rattle.subthread.specs.inner.Running.{doing_of, Holds, IsTask, AreAtHand};
 ghost use Rattle.subthread.specs.inner.Leaving.{IsGroundOf, Walked, actions_at, effect_in, EndsAs};
 
-use crate::attempts::{Walk, attempts};
+use crate::attempts::{Walk, attempts, given_back};
 use crate::begins::begin;
 use crate::cells::{CellsAtHand, disturb_first};
 use crate::damage::damage;
@@ -80,11 +80,16 @@ pub fn walk(
     ensures walked { IfOk result (λ end. Walked work.now (with_bundles ground.now.bundles.value task.now) end cursor.old (doing_of doing.old) cursor.new (doing_of doing.new)) }
     ensures holds { Holds ground.now doing.new }
 {
-    let mut names = Names::new(alloc);
     begin(alloc, &task.begins.sync, ground, task.child, cursor, doing)?;
+    let mut names = Names::new(alloc);
     let next = run_body(alloc, ground, work.turns, cursor, doing, &mut names)?;
-    let foot = footprint(alloc, &task.begins, task.thread, task.child, &names)?;
-    Ok((next, foot))
+    match footprint(alloc, &task.begins, task.thread, task.child, &names) {
+        Ok(foot) => Ok((next, foot)),
+        Err(halt) => {
+            drop(next);
+            Err(halt)
+        }
+    }
 }
 
 // Registers with the sum over them, of which a bit is turned where a test says so.
@@ -98,28 +103,42 @@ fn summed(recheck: &Recheck, regs: Summed) -> Summed
     regs
 }
 
-// An effect with the sums over its registers, where walks are made twice.
-fn with_sums(recheck: &Recheck, effect: Effect) -> Effect
+// The registers of a child with the sum over them.
+fn summed_child(child: Option<(ThreadNo, Summed)>) -> Option<(ThreadNo, Summed)>
+    ensures { result ≡ child }
+{
+    match child {
+        Some((child, regs)) => Some((child, regs.summed())),
+        None => None,
+    }
+}
+
+// An effect with the sums over its registers.
+fn all_summed(recheck: &Recheck, effect: Effect) -> Effect
     ensures { result ≡ effect }
 {
-    if !recheck.is_on() {
-        return effect;
-    }
     let Effect {
         thread,
         regs,
         child,
         prints,
     } = effect;
-    let child = match child {
-        Some((child, regs)) => Some((child, regs.summed())),
-        None => None,
-    };
     Effect {
         thread,
         regs: summed(recheck, regs),
-        child,
+        child: summed_child(child),
         prints,
+    }
+}
+
+// An effect with the sums over its registers, where walks are made twice.
+fn with_sums(recheck: &Recheck, effect: Effect) -> Effect
+    ensures { result ≡ effect }
+{
+    if recheck.is_on() {
+        all_summed(recheck, effect)
+    } else {
+        effect
     }
 }
 
@@ -134,6 +153,16 @@ fn left_at_rest(recheck: &Recheck, bundles: Seq<Bundle>) -> Seq<Bundle>
     Seq::from_vec(bundles)
 }
 
+// A child with its registers, where there is one.
+fn child_of(child: Option<ThreadNo>, regs: Nums) -> Option<(ThreadNo, Summed)>
+    ensures { result ≡ option_map (λ c. (c, regs)) child }
+{
+    match child {
+        Some(child) => Some((child, Summed::plain(regs))),
+        None => None,
+    }
+}
+
 // What was done beside cells, as an effect.
 fn effect_of(
     thread: ThreadNo,
@@ -144,11 +173,10 @@ fn effect_of(
 ) -> Effect
     ensures { result ≡ record { thread = thread; regs = regs; child = option_map (λ c. (c, child_regs)) child; prints = prints } }
 {
-    let child_regs = Summed::plain(child_regs);
     Effect {
         thread,
         regs: Summed::plain(regs),
-        child: child.map(|c| (c, child_regs)),
+        child: child_of(child, child_regs),
         prints,
     }
 }
@@ -188,37 +216,47 @@ fn end(
     }
 }
 
-// Ends the run of a task that stands here, and whose bundles are with the cells at hand.
-fn ended(
+// A task with other bundles.
+fn with_bundles(task: Task, bundles: Seq<Bundle>) -> Task
+    ensures { result ≡ with_bundles bundles task }
+{
+    let mut task = task;
+    task.given.bundles = bundles;
+    task
+}
+
+// Ends the run of a task by this walk, which stands at this number.
+fn ended_at(
     alloc: Global,
     recheck: &Recheck,
     task: Task,
-    cursor: Cursor,
-    next: Next,
-    foot: Footprint,
-    doing: Doing,
+    pc: u32,
+    walk: Walk,
 ) -> Result<Done, AllocFailed<Task>>
-    ensures ok { IfOk result (λ done. EndsAs doing.entry.cells.under doing.entry.cells.came task cursor next foot (doing_of doing.entry) done) }
-    ensures back { IfErr result (λ failed. failed.value ≡ with_bundles doing.entry.cells.came task) }
+    requires { pc ≡ walk.cursor.pc }
+    ensures ok { IfOk result (λ done. EndsAs walk.entry.doing.cells.under walk.entry.doing.cells.came task walk.entry.cursor walk.entry.next walk.entry.foot (doing_of walk.entry.doing) done) }
+    ensures back { IfErr result (λ failed. failed.value ≡ with_bundles walk.entry.doing.cells.came task) }
 {
-    let mut task = task;
-    let Ok(pc) = narrow(cursor.pc) else {
-        task.given.bundles = doing.cells.take_back();
-        return Err(AllocFailed { value: task });
-    };
+    let Walk {
+        cursor,
+        doing,
+        next,
+        foot,
+    } = walk;
     match end(alloc, recheck, task.mask, task.thread, task.child, doing) {
         Err(bundles) => {
-            task.given.bundles = bundles;
-            Err(AllocFailed { value: task })
+            drop(next);
+            Err(AllocFailed {
+                value: with_bundles(task, bundles),
+            })
         }
         Ok((bundles, old, effect)) => {
-            task.given.bundles = bundles;
             let at = At {
                 task: task.at.task,
                 pc,
             };
             Ok(Done {
-                task,
+                task: with_bundles(task, bundles),
                 old,
                 effect,
                 next,
@@ -227,6 +265,24 @@ fn ended(
                 foot,
             })
         }
+    }
+}
+
+// Ends the run of a task by this walk, which has the task's bundles with its cells at hand.
+fn ended(
+    alloc: Global,
+    recheck: &Recheck,
+    task: Task,
+    walk: Walk,
+) -> Result<Done, AllocFailed<Task>>
+    ensures ok { IfOk result (λ done. EndsAs walk.entry.doing.cells.under walk.entry.doing.cells.came task walk.entry.cursor walk.entry.next walk.entry.foot (doing_of walk.entry.doing) done) }
+    ensures back { IfErr result (λ failed. failed.value ≡ with_bundles walk.entry.doing.cells.came task) }
+{
+    match narrow(walk.cursor.pc) {
+        Ok(pc) => ended_at(alloc, recheck, task, pc, walk),
+        Err(_) => Err(AllocFailed {
+            value: with_bundles(task, given_back(walk)),
+        }),
     }
 }
 
@@ -270,18 +326,9 @@ pub fn run_counted(
     let bundles = mem::replace(&mut task.given.bundles, Seq::new(alloc));
     *steps = 0;
     match attempts(alloc, work, &task, &ground, bundles, steps) {
-        Ok(walk) => {
-            let Walk {
-                cursor,
-                doing,
-                next,
-                foot,
-            } = walk;
-            ended(alloc, &work.recheck, task, cursor, next, foot, doing)
-        }
-        Err(bundles) => {
-            task.given.bundles = bundles;
-            Err(AllocFailed { value: task })
-        }
+        Ok(walk) => ended(alloc, &work.recheck, task, walk),
+        Err(bundles) => Err(AllocFailed {
+            value: with_bundles(task, bundles),
+        }),
     }
 }

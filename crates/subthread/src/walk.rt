@@ -1,8 +1,9 @@
 // The walk of a run over its task's instructions.
 ghost use Rattle.std.specs.Prelude.{◌≡◌, is_some, map, option_map, slice_get, IfOk};
 ghost use Rattle.task_ast.specs.meaning.Control.{all_of};
+ghost use Rattle.task_code.specs.Instructions.{Assign, Unless, Again, Lock, Unlock, Fork};
 ghost use Rattle.task_code.specs.Reading.{fork_arguments, gift_action, step_does, step_instr};
-ghost use Rattle.task_code.specs.View.{plain_does, plain_forking, plain_gifts, plain_instrs};
+ghost use Rattle.task_code.specs.View.{plain_calc, plain_does, plain_forking, plain_gifts, plain_instrs};
 ghost use Rattle.subthread.specs.inner.Moving.{Moved};
 ghost use Rattle.subthread.specs.inner.Running.{env_in, place_in, did, body_in, Holds, IsTask, StaysInside, StepIsAtHand, AreAtHand, Stepped, Ran};
 
@@ -15,7 +16,7 @@ use crate::values::{cell_at, control_value, control_values, has_value};
 use gp_base::{LockNo, Nums};
 use std::alloc::{AllocError, Global};
 use task_ast::{Next, SyncOp};
-use task_code::{Calc, Does, Forking};
+use task_code::{Calc, CellIndex, CellRange, Does, Forking};
 
 /// A stop before a synchronisation.
 pub fn stop(sync: SyncOp, line: u32) -> Went
@@ -61,6 +62,112 @@ pub fn fork_values(
     }
 }
 
+// A control variable takes a value.
+fn assigned(k: usize, c: &Calc, line: u32, ground: &Ground, cursor: &mut Cursor) -> Went
+    requires { StaysInside (Assign k (plain_calc c.now)) cursor.old.pc }
+    ensures { Moved (step_does ground.now.feeds.now line (Assign k (plain_calc c.now)) (place_in ground.now cursor.old)) result (place_in ground.now cursor.old) (place_in ground.now cursor.new) }
+{
+    match control_value(c, ground, cursor.ctl.as_slice()) {
+        None => fault(line),
+        Some(v) => {
+            set_number(&mut cursor.ctl, k, v);
+            cursor.pc += 1;
+            Went::On
+        }
+    }
+}
+
+// A jump over so many instructions where a value is 0.
+fn jumped(c: &Calc, n: usize, line: u32, ground: &Ground, cursor: &mut Cursor) -> Went
+    requires { StaysInside (Unless (plain_calc c.now) n) cursor.old.pc }
+    ensures { Moved (step_does ground.now.feeds.now line (Unless (plain_calc c.now) n) (place_in ground.now cursor.old)) result (place_in ground.now cursor.old) (place_in ground.now cursor.new) }
+{
+    match control_value(c, ground, cursor.ctl.as_slice()) {
+        None => fault(line),
+        Some(v) => {
+            if is_zero(v) {
+                cursor.pc = cursor.pc + 1 + n;
+                Went::On
+            } else {
+                cursor.pc += 1;
+                Went::On
+            }
+        }
+    }
+}
+
+// A loop turn, which begins so many instructions before, unless a value is 0.
+fn turned(c: &Calc, n: usize, line: u32, ground: &Ground, cursor: &mut Cursor) -> Went
+    requires { StaysInside (Again (plain_calc c.now) n) cursor.old.pc }
+    ensures { Moved (step_does ground.now.feeds.now line (Again (plain_calc c.now) n) (place_in ground.now cursor.old)) result (place_in ground.now cursor.old) (place_in ground.now cursor.new) }
+{
+    match control_value(c, ground, cursor.ctl.as_slice()) {
+        None => fault(line),
+        Some(v) => {
+            if is_zero(v) {
+                cursor.pc += 1;
+                Went::On
+            } else {
+                Went::Turned(cursor.pc - n)
+            }
+        }
+    }
+}
+
+// A stop before a lock is taken.
+fn locked(
+    cells: CellRange,
+    i: CellIndex,
+    line: u32,
+    ground: &Ground,
+    cursor: &Cursor,
+) -> Result<Went, AllocError>
+    ensures { IfOk result (λ went. Moved (step_does ground.now.feeds.now line (Lock cells i) (place_in ground.now cursor.now)) went (place_in ground.now cursor.now) (place_in ground.now cursor.now)) }
+{
+    match cell_at(cells, i, cursor.ctl.as_slice()) {
+        None => Ok(fault(line)),
+        Some(lock) => Ok(stop(SyncOp::Lock(LockNo(narrow(lock)?)), line)),
+    }
+}
+
+// A stop before a lock is given back.
+fn unlocked(
+    cells: CellRange,
+    i: CellIndex,
+    line: u32,
+    ground: &Ground,
+    cursor: &Cursor,
+) -> Result<Went, AllocError>
+    ensures { IfOk result (λ went. Moved (step_does ground.now.feeds.now line (Unlock cells i) (place_in ground.now cursor.now)) went (place_in ground.now cursor.now) (place_in ground.now cursor.now)) }
+{
+    match cell_at(cells, i, cursor.ctl.as_slice()) {
+        None => Ok(fault(line)),
+        Some(lock) => Ok(stop(SyncOp::Unlock(LockNo(narrow(lock)?)), line)),
+    }
+}
+
+// A stop before a fork.
+fn forked(
+    alloc: Global,
+    forking: &Forking,
+    line: u32,
+    ground: &Ground,
+    cursor: &Cursor,
+) -> Result<Went, AllocError>
+    ensures { IfOk result (λ went. Moved (step_does ground.now.feeds.now line (Fork (plain_forking forking.now)) (place_in ground.now cursor.now)) went (place_in ground.now cursor.now) (place_in ground.now cursor.now)) }
+{
+    match fork_values(alloc, forking, ground, cursor.ctl.as_slice())? {
+        None => Ok(fault(line)),
+        Some(args) => Ok(stop(
+            SyncOp::Fork {
+                task: forking.task,
+                args,
+            },
+            line,
+        )),
+    }
+}
+
 /// The step at an instruction, without what a data statement does. A loop turn is only found.
 #[inline(always)]
 pub fn control_at(
@@ -74,59 +181,16 @@ pub fn control_at(
     ensures { IfOk result (λ went. Moved (step_does ground.now.feeds.now line (plain_does does.now) (place_in ground.now cursor.old)) went (place_in ground.now cursor.old) (place_in ground.now cursor.new)) }
 {
     match does {
-        Does::Assign(k, c) => match control_value(c, ground, cursor.ctl.as_slice()) {
-            None => Ok(fault(line)),
-            Some(v) => {
-                set_number(&mut cursor.ctl, *k, v);
-                cursor.pc += 1;
-                Ok(Went::On)
-            }
-        },
+        Does::Assign(k, c) => Ok(assigned(*k, c, line, ground, cursor)),
         Does::GoOn(n) => {
             cursor.pc = cursor.pc + 1 + *n;
             Ok(Went::On)
         }
-        Does::Unless(c, n) => match control_value(c, ground, cursor.ctl.as_slice()) {
-            None => Ok(fault(line)),
-            Some(v) => {
-                if is_zero(v) {
-                    cursor.pc = cursor.pc + 1 + *n;
-                    Ok(Went::On)
-                } else {
-                    cursor.pc += 1;
-                    Ok(Went::On)
-                }
-            }
-        },
-        Does::Again(c, n) => match control_value(c, ground, cursor.ctl.as_slice()) {
-            None => Ok(fault(line)),
-            Some(v) => {
-                if is_zero(v) {
-                    cursor.pc += 1;
-                    Ok(Went::On)
-                } else {
-                    Ok(Went::Turned(cursor.pc - *n))
-                }
-            }
-        },
-        Does::Lock(cells, i) => match cell_at(*cells, *i, cursor.ctl.as_slice()) {
-            None => Ok(fault(line)),
-            Some(lock) => Ok(stop(SyncOp::Lock(LockNo(narrow(lock)?)), line)),
-        },
-        Does::Unlock(cells, i) => match cell_at(*cells, *i, cursor.ctl.as_slice()) {
-            None => Ok(fault(line)),
-            Some(lock) => Ok(stop(SyncOp::Unlock(LockNo(narrow(lock)?)), line)),
-        },
-        Does::Fork(forking) => match fork_values(alloc, forking, ground, cursor.ctl.as_slice())? {
-            None => Ok(fault(line)),
-            Some(args) => Ok(stop(
-                SyncOp::Fork {
-                    task: forking.task,
-                    args,
-                },
-                line,
-            )),
-        },
+        Does::Unless(c, n) => Ok(jumped(c, *n, line, ground, cursor)),
+        Does::Again(c, n) => Ok(turned(c, *n, line, ground, cursor)),
+        Does::Lock(cells, i) => locked(*cells, *i, line, ground, cursor),
+        Does::Unlock(cells, i) => unlocked(*cells, *i, line, ground, cursor),
+        Does::Fork(forking) => forked(alloc, forking, line, ground, cursor),
         Does::Join(c, _) => match control_value(c, ground, cursor.ctl.as_slice()) {
             None => Ok(fault(line)),
             Some(thread) => Ok(stop(SyncOp::Join(thread), line)),

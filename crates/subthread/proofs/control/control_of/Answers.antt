@@ -1,5 +1,6 @@
 use Rattle.std.proofs.Common.{refl, ◌∙◌}
 use Rattle.subthread.specs.declared.ground.Cursor.{Cursor}
+use Rattle.subthread.proofs.Leavings.{if_ok, both_ok}
 use Rattle.subthread.proofs.Moves.{whole_led}
 use Rattle.subthread.proofs.control.control_of.Goals as goal
 
@@ -14,6 +15,8 @@ returns c =
     let led = whole_led c.args.work.now ground at c.args.thread is c.args.begins.now.sync c.args.child c.args.ctl.now
     before refl c.in_ok-ctl.ensures middle then c.in_ok-next.next c.begin_control.ensures c.in_ok-next.ensures in
     record {
-      next = led.next_is;
-      place = (λ i. record { at = record { task = at.task; pc = c.in_ok-pc.ensures i }; ctl = then.ctl; me = c.args.thread }) ∙ led.at_is;
+      next = if_ok c.left_at.result (λ left same. same ∙ led.next_is) c.left_at.ensures.next;
+      place =
+          both_ok c.left_at.result (λ left at_is ctl_is. (λ i. record { at = at_is i; ctl = ctl_is i; me = c.args.thread }) ∙ led.at_is)
+          c.left_at.ensures.at c.left_at.ensures.ctl;
     }
