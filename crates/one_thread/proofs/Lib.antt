@@ -4,6 +4,7 @@ pub mod Fitting
 pub mod Forks
 pub mod Holds
 pub mod Issues
+pub mod Joins
 pub mod Jumps
 pub mod Lefts
 pub mod Looking
@@ -17,6 +18,7 @@ pub mod Running
 pub mod Settling
 pub mod Sleepers
 pub mod Steps
+pub mod Stops
 pub mod SubthreadRuns
 pub mod TaskVariables
 pub mod ThreadLemmas

@@ -13,7 +13,7 @@ use Rattle.task_ast.specs.meaning.Names.{is_name, is_task, registers_of, records
 use Rattle.task_ast.specs.meaning.Declarations.{main}
 use Rattle.task_ast.specs.meaning.State.{number_at}
 use Rattle.task_ast.specs.meaning.Table.{numbers}
-use Rattle.task_ast.specs.meaning.Plain.{no_task, task_at, main_number, start_point}
+use Rattle.task_ast.specs.meaning.Plain.{no_task, task_at, main_number}
 use Rattle.task_ast.specs.Plain.{opening}
 use Rattle.task_ast.specs.View.{plain_task, plain_program}
 use Rattle.task_ast.proofs.Terms.{position-cons}
@@ -24,6 +24,7 @@ use Rattle.one_thread.specs.inner.Holding.{AreHeld}
 use Rattle.one_thread.specs.inner.View.{table_of, WalksStand}
 use Rattle.one_thread.specs.inner.Walking.{point_of}
 use Rattle.one_thread.specs.inner.Runs.{slots_of, registers_at, IsSound, AreSound, IsNew, Holds}
+use Rattle.one_thread.specs.inner.Start.{IsFirst}
 
 -- ---- cells
 numbers-next : (c n : ℕ) → c < n → numbers c (n - c) ≡ c ∷ numbers (c + 1) (n - (c + 1))
@@ -97,19 +98,27 @@ one-register code inputs limits w registers (suc u) here all = go (nat_eq 0 (suc
     go true is = absurd (let e = eqb-true 0 (suc u) is in omega (arith, e))
     go false is = refl
 
--- the run before its first subthread
-pub opening-holds : (code : Code) (inputs : Inputs) (limits : Limits) (run : Run) (k : ℕ) (names : List Name)
-    (registers : List ℤ) (w : Walk)
-    → run.program.now.program ≡ code → run.slots.now ≡ map slots_of code.tasks → run.turns ≡ limits.turns
+-- the thread of the first task that is named `main`
+pub first-thread : (code : Code) (slots : List (List Name)) (k : ℕ) (names : List Name) (registers : List ℤ) (w : Walk)
+    → slots ≡ map slots_of code.tasks
     → k ≡ unwrap_or (position {X = CodeTask} (λ task. is_name main task.name) code.tasks) 0
-    → slice_get run.slots.now k ≡ Some names → registers ≡ replicate (length names) (pos 0) → IsNew code k 0 [] registers w
+    → slice_get slots k ≡ Some names → registers ≡ replicate (length names) (pos 0) → IsNew code k 0 [] registers w
+    → IsFirst code w
+first-thread code slots k names registers w same main_is at registers_are new =
+    subst (λ n. IsNew code n 0 [] (replicate (length (registers_of (task_at (plain_program code) n))) (pos 0)) w) (main-is code k main_is)
+    (subst (λ l. IsNew code k 0 [] l w) (registers_are ∙ ap (λ n. replicate (length n) (pos 0)) (names-are code slots k names same at)) new)
+
+-- the run before its first subthread
+pub opening-holds : (code : Code) (inputs : Inputs) (limits : Limits) (run : Run) (w : Walk)
+    → run.program.now.program ≡ code → run.slots.now ≡ map slots_of code.tasks → run.turns ≡ limits.turns
+    → IsFirst code w
     → run.threads.items ≡ w ∷ []
     → table_of run.table ≡ (opening (plain_program code) inputs limits).table
     → AreHeld run.table.owners.owners.items run.table.owners.held.items → WalksStand run.table
     → run.shared.cells ≡ map (number_at inputs.records) (numbers 0 (cells_in (records_of code.heads)))
     → run.shared.feeds ≡ zip (feeds_of code.heads) inputs.feeds
     → Holds code inputs limits run (opening (plain_program code) inputs limits)
-opening-holds code inputs limits run k names registers w program slots turns main_is at registers_are new threads table held walks cells feeds =
+opening-holds code inputs limits run w program slots turns new threads table held walks cells feeds =
     record {
       program = program;
       slots = slots;
@@ -119,14 +128,8 @@ opening-holds code inputs limits run k names registers w program slots turns mai
       walks = walks;
       table = table;
       sound = subst (AreSound code) (sym threads) (one-sound code w new.sound);
-      points =
-          ap (map point_of) threads ∙ ap (λ p. p ∷ [])
-          (new.at ∙ ap (λ n. start_point (task_at (plain_program code) n) 0 []) (main-is code k main_is));
-      registers = λ u.
-          ap (λ l. registers_at l u) threads
-          ∙ one-register code inputs limits w registers u new.data_are
-          (registers_are ∙ ap (λ n. replicate (length n) (pos 0)) (names-are code run.slots.now k names slots at)
-          ∙ ap (λ n. replicate (length (registers_of (task_at (plain_program code) n))) (pos 0)) (main-is code k main_is));
+      points = ap (map point_of) threads ∙ ap (λ p. p ∷ []) new.at;
+      registers = λ u. ap (λ l. registers_at l u) threads ∙ one-register code inputs limits w _ u new.data_are refl;
       cells =
           λ c less. ap (λ l. number_at l c) cells ∙ at-number (number_at inputs.records) 0 (cells_in (records_of code.heads)) c less
           ∙ ap (number_at inputs.records) (omega arith);

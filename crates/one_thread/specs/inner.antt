@@ -6,6 +6,7 @@ pub mod Remaining
 pub mod Resting
 pub mod Runs
 pub mod Sleeping
+pub mod Start
 pub mod Subthreads
 pub mod View
 pub mod Walking

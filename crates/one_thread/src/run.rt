@@ -48,6 +48,15 @@ pub enum Move {
     Ends(End),
 }
 
+// What is told of one subthread, beside the synchronisation that it begins with.
+#[derive(Drop)]
+struct Trace {
+    thread: ThreadNo,
+    held: Seq<LockNo>,
+    foot: Footprint,
+    prints: Lines,
+}
+
 // Lock cells as a list of their own.
 fn locks_of(alloc: Global, held: &[u32]) -> Result<Seq<LockNo>, AllocError>
     ensures { IfOk result (λ locks. locks ≡ held.now) }
@@ -60,6 +69,38 @@ fn locks_of(alloc: Global, held: &[u32]) -> Result<Seq<LockNo>, AllocError>
 }
 
 impl Run<'_> {
+    // One subthread, and what is told of it.
+    fn trace<R: Reckon>(
+        &mut self,
+        alloc: Global,
+        reckon: &mut R,
+        t: usize,
+        begins: &Next,
+        child: Option<usize>,
+    ) -> Result<Trace, AllocError>
+        requires exists { t < length self.old.threads.items }
+        requires seated { t < length self.old.table.seats.items }
+        requires small { IsSmall (program_of self.old.program.now) }
+        requires slots { self.old.slots.now ≡ map slots_of (program_of self.old.program.now).tasks }
+        requires sound { AreSound (program_of self.old.program.now) self.old.threads.items }
+        requires held { AreHeld self.old.table.owners.owners.items self.old.table.owners.held.items }
+        requires walks { WalksStand self.old.table }
+        ensures { IfOk result (λ trace. Stepped self.old t begins.now child (record { thread = trace.thread; begins = begins.now; held = trace.held; foot = trace.foot; prints = trace.prints }) self.new) }
+    {
+        let thread = thread_number(t)?;
+        let held = locks_of(alloc, self.table.owners.held_by(t))?;
+        reckon.begin();
+        let told = self.perform(alloc, reckon, t, begins, child)?;
+        let foot = footprint(alloc, t, &begins.sync, child, &told.named)?;
+        let Told { lines: prints, .. } = told;
+        Ok(Trace {
+            thread,
+            held,
+            foot,
+            prints,
+        })
+    }
+
     // One subthread, whose synchronisation the table knows.
     fn step<R: Reckon>(
         &mut self,
@@ -78,12 +119,13 @@ impl Run<'_> {
         requires walks { WalksStand self.old.table }
         ensures { IfOk result (λ step. Stepped self.old t begins child step self.new) }
     {
-        let held = locks_of(alloc, self.table.owners.held_by(t))?;
-        reckon.begin();
-        let told = self.perform(alloc, reckon, t, &begins, child)?;
-        let foot = footprint(alloc, t, &begins.sync, child, &told.named)?;
-        let thread = thread_number(t)?;
-        let Told { lines: prints, .. } = told;
+        let trace = self.trace(alloc, reckon, t, &begins, child)?;
+        let Trace {
+            thread,
+            held,
+            foot,
+            prints,
+        } = trace;
         Ok(Step {
             thread,
             begins,

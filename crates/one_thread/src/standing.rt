@@ -90,10 +90,11 @@ pub fn stand_before(
     ensures { let program = plain_program (program_of c.now) in let here = before program inputs.now limits position in IfOk result (λ standing. MatchOption standing (length (order program inputs.now limits) < position) (Stands here.table here.points)) }
 {
     let slots = all_registers(alloc, c.program().tasks.as_slice())?;
-    let mut run = Run::new(alloc, c, slots.as_slice(), inputs, limits)?;
+    let opening = Run::new(alloc, c, slots.as_slice(), inputs, limits)?;
+    let mut run = Box::new(alloc, opening)?;
     for at in 0..position {
         match run.next(alloc, &mut Plainly)? {
-            Move::Goes(_step) => {}
+            Move::Goes(step) => drop(step),
             Move::Ends(_end) => return Ok(None),
         }
     }

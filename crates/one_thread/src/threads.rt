@@ -53,13 +53,14 @@ pub fn new_thread<'a>(
         return Err(AllocError);
     };
     let me = thread_number(me)?;
+    let variables = control_variables(alloc, text, arguments)?;
     Ok(Walk {
         program,
         task: text,
         registers: names.as_slice(),
         left: Left::new(alloc, text.body.as_slice()),
         env: Env {
-            names: control_variables(alloc, text, arguments)?,
+            names: variables,
             regs: Seq::new(alloc),
             me,
             feeds: Seq::new(alloc),
@@ -88,44 +89,22 @@ fn first_register(threads: &[Walk], h: usize) -> i64
 fn joined_value(begins: &SyncOp, threads: &[Walk]) -> i64
     ensures { result ≡ joined_of begins.now threads.now }
 {
-    match begins {
-        SyncOp::Join(h) => {
-            if *h < 0 {
-                return 0;
-            }
-            first_register(threads, *h as usize)
+    if let SyncOp::Join(h) = begins {
+        if *h >= 0 {
+            return first_register(threads, *h as usize);
         }
-        SyncOp::Start => 0,
-        SyncOp::Lock(_) => 0,
-        SyncOp::Unlock(_) => 0,
-        SyncOp::Fork { .. } => 0,
-        SyncOp::Barrier(_) => 0,
-        SyncOp::Settle { .. } => 0,
-        SyncOp::End => 0,
-        SyncOp::BadIndex => 0,
-        SyncOp::Spent => 0,
     }
+    0
 }
 
 // The thread, before anything else, where a settle sets a variable to the value of a register.
 fn settle(alloc: Global, walk: &mut Walk, begins: &SyncOp)
     ensures { walk.new ≡ settled begins.now walk.old }
 {
-    match begins {
-        SyncOp::Settle { reg, ctl } => {
-            let value = number_at(walk.data.registers.as_slice(), *reg as usize);
-            let names = mem::replace(&mut walk.env.names, Seq::new(alloc));
-            walk.env.names = with_number(names, *ctl as usize, value);
-        }
-        SyncOp::Start => {}
-        SyncOp::Lock(_) => {}
-        SyncOp::Unlock(_) => {}
-        SyncOp::Fork { .. } => {}
-        SyncOp::Join(_) => {}
-        SyncOp::Barrier(_) => {}
-        SyncOp::End => {}
-        SyncOp::BadIndex => {}
-        SyncOp::Spent => {}
+    if let SyncOp::Settle { reg, ctl } = begins {
+        let value = number_at(walk.data.registers.as_slice(), *reg as usize);
+        let names = mem::replace(&mut walk.env.names, Seq::new(alloc));
+        walk.env.names = with_number(names, *ctl as usize, value);
     }
 }
 
@@ -192,8 +171,8 @@ impl Run<'_> {
             child: registers,
             told,
         } = done;
-        self.add(alloc, &begins.sync, registers)?;
         self.table.learn(t, next);
+        self.add(alloc, &begins.sync, registers)?;
         Ok(told)
     }
 }

@@ -10,7 +10,7 @@ ghost use Rattle.one_thread.specs.inner.Places.{IsPlaceOf};
 use crate::cells::same_name;
 use gp_base::{Name, Nums, Seq};
 use std::alloc::{AllocError, Global};
-use task_ast::{Param, TaskText};
+use task_ast::{Param, TaskText, VarLine};
 
 // Adds the names of the data variables among these.
 fn add_datas(alloc: Global, names: &mut Seq<Name>, params: &[Param]) -> Result<(), AllocError>
@@ -24,6 +24,16 @@ fn add_datas(alloc: Global, names: &mut Seq<Name>, params: &[Param]) -> Result<(
     Ok(())
 }
 
+// Adds the names of the data variables of these lines.
+fn add_declared(alloc: Global, names: &mut Seq<Name>, lines: &[VarLine]) -> Result<(), AllocError>
+    ensures { OnOk result (names.new ≡ names.old ++ datas (declared_in lines.now)) }
+{
+    for line in lines {
+        add_datas(alloc, names, line.names.as_slice())?;
+    }
+    Ok(())
+}
+
 /// The names of a task's registers: `$ret`, then its data variables in declared order.
 pub fn register_names(alloc: Global, task: &TaskText) -> Result<Seq<Name>, AllocError>
     ensures { IfOk result (λ names. names ≡ registers_of (plain_task task.now)) }
@@ -31,9 +41,7 @@ pub fn register_names(alloc: Global, task: &TaskText) -> Result<Seq<Name>, Alloc
     let mut names = Seq::new(alloc);
     names.push(Name::from_slice(alloc, b"ret")?)?;
     add_datas(alloc, &mut names, task.params.as_slice())?;
-    for line in task.vars.as_slice() {
-        add_datas(alloc, &mut names, line.names.as_slice())?;
-    }
+    add_declared(alloc, &mut names, task.vars.as_slice())?;
     Ok(names)
 }
 

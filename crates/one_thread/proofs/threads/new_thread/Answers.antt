@@ -16,5 +16,5 @@ returns c =
     c.in-Some-get.ensures.lookup.1 in
     new-is c.args.program.now.program c.args.slots.now c.args.task c.args.me c.args.arguments.now c.args.registers _ c.in-Some.text.now
     c.in-Some-get.names.now c.requires at there
-    refl refl c.as_slice-2.ensures (c.new.ensures ∙ ap plain_stmts c.as_slice-3.ensures) c.in_ok-control_variables.ensures
+    refl refl c.as_slice-2.ensures (c.new.ensures ∙ ap plain_stmts c.as_slice-3.ensures) c.in_ok-variables.ensures
     c.new-2.ensures c.in_ok-me.ensures refl

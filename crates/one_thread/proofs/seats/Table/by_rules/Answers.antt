@@ -7,6 +7,7 @@ use Rattle.task_ast.specs.Turn.{tried, issuing, Ended}
 use Rattle.one_thread.specs.inner.View.{table_of, seat_of}
 use Rattle.task_ast.proofs.SeenSeats.{turn-tries, next-at, last-at}
 use Rattle.one_thread.proofs.Looking.{seen-get}
+use Rattle.one_thread.proofs.Stops.{turn-ends, turn-needs, by-deadlock}
 use Rattle.one_thread.proofs.Turning.{by-rule, by-line, by-fork, by-end}
 use Rattle.one_thread.proofs.seats.Table.by_rules.Goals as goal
 
@@ -111,3 +112,21 @@ returns-in-Spent-clause-turn c =
     c.if-seat.false c.in-Spent.is)
     ∙ ap (λ p. Done (Ended (Spent p))) (last-at (table_of c.args.self.now) c.in-Some.t
     (seat_of c.in-Some-get.seat.now) at ∙ sym c.unwrap_or-last.ensures)
+
+pub returns-in_default-clause-turn : goal.returns-in_default-clause-turn
+returns-in_default-clause-turn c = turn-ends (table_of c.args.self.now) c.in_default.ensures.found
+
+pub returns-in_default-next-clause-turn : goal.returns-in_default-next-clause-turn
+returns-in_default-next-clause-turn c =
+    let at =
+    seen-get c.args.self.now _ c.in-Some.t c.in-Some-get.seat.now c.deref.ensures.value c.in-Some-get.ensures.lookup.0
+    c.in-Some-get.ensures.lookup.1 in
+    turn-needs (table_of c.args.self.now) c.in-Some.t (seat_of c.in-Some-get.seat.now) c.in-Some.ensures.found at c.in_default-next.is
+
+pub returns-then-seat-clause-turn : goal.returns-then-seat-clause-turn
+returns-then-seat-clause-turn c =
+    let at =
+    seen-get c.args.self.now _ c.in-Some.t c.in-Some-get.seat.now c.deref.ensures.value c.in-Some-get.ensures.lookup.0
+    c.in-Some-get.ensures.lookup.1 in
+    by-deadlock c.deadlock.result (table_of c.args.self.now) c.in-Some.t (seat_of c.in-Some-get.seat.now) c.in-Some-next.next
+    c.in-Some.ensures.found at c.in-Some-next.is c.if-seat.true c.deadlock.ensures

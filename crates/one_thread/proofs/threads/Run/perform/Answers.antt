@@ -4,8 +4,7 @@ use Rattle.task_ast.specs.meaning.Names.{locks_of, records_of, cells_in, registe
 use Rattle.task_ast.specs.View.{plain_task}
 use Rattle.one_thread.specs.inner.Subthreads.{settled, RanWith}
 use Rattle.one_thread.specs.inner.Runs.{joined_of}
-use Rattle.one_thread.specs.inner.View.{table_of}
-use Rattle.task_ast.specs.Table.{learning}
+use Rattle.one_thread.specs.inner.View.{table_of, WalksStand}
 use Rattle.task_ast.proofs.Looks.{get-at}
 use Rattle.one_thread.proofs.threads.Run.perform.Goals as goal
 
@@ -54,9 +53,9 @@ returns g c =
           c.args.child (joined_of c.args.begins.now.sync c.args.self.now.threads.items) c.args.self.now.turns c.in_ok-done.done
           c.work.new.walk s) (sym c.in_ok-add.ensures.shared) ran;
       threads = c.in_ok-add.ensures.threads;
-      table = c.learn.ensures.table ∙ ap (λ t. learning (table_of t) c.args.t c.in_ok-done.done.next) c.in_ok-add.ensures.table;
-      owners = c.learn.ensures.owners ∙ ap (λ t. t.owners) c.in_ok-add.ensures.table;
-      walks = c.learn.ensures.walks;
+      table = ap table_of c.in_ok-add.ensures.table ∙ c.learn.ensures.table;
+      owners = ap (λ t. t.owners) c.in_ok-add.ensures.table ∙ c.learn.ensures.owners;
+      walks = subst WalksStand (sym c.in_ok-add.ensures.table) c.learn.ensures.walks;
       told_is = refl;
       program = c.in_ok-add.ensures.program;
       slots = c.in_ok-add.ensures.slots;
