@@ -6,7 +6,7 @@ use crate::spots::{
     NUMBER, OPEN_PAREN, OR, PERCENT, PLUS, PRINT, READ, ROWS, SELF, SETTLE, SLASH, STAR, UNEQUAL,
     UNLOCK, WHEN, WHILE, WRITE,
 };
-use std::alloc::{AllocError, Global};
+use std::alloc::AllocError;
 use task_parser::Kind;
 use text_pieces::Piece::Word;
 use text_pieces::push_pieces;
@@ -196,7 +196,7 @@ fn push_groups(
 }
 
 /// Appends what was expected by its names, where these kinds could stand: the single kinds first.
-pub fn push_expected(_alloc: Global, text: &mut Vec<u8>, kinds: &[Kind]) -> Result<(), AllocError> {
+pub fn push_expected(text: &mut Vec<u8>, kinds: &[Kind]) -> Result<(), AllocError> {
     if kinds.is_empty() {
         return Ok(());
     }

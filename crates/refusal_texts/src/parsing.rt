@@ -56,7 +56,7 @@ fn token_message(
 ) -> Result<Vec<u8>, AllocError> {
     let mut text = Vec::new(alloc);
     push_token(&mut text, program, tokens, at)?;
-    push_expected(alloc, &mut text, kinds)?;
+    push_expected(&mut text, kinds)?;
     Ok(text)
 }
 

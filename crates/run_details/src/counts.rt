@@ -1,8 +1,7 @@
 // How much a run did, and how much of it side by side.
 
-use crate::words::plural;
 use one_thread::Step;
-use run_hints::{at, child_of, put};
+use run_hints::{at, child_of, plural, put};
 use std::alloc::{AllocError, Global};
 use task_ast::SyncOp;
 use text_pieces::Piece::{Number, Word};

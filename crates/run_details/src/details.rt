@@ -2,12 +2,11 @@
 
 use crate::halted::Halted;
 use crate::indices::{env_of, push_index};
-use crate::words::plural;
 use gp_base::{LockNo, Name, ThreadNo, Why};
 use one_thread::{Standing, Step};
 use run_counts::Loop;
 use run_hints::{
-    Place, push_alike, push_arrivals, push_chain, push_circle, push_ended, push_forks,
+    Place, plural, push_alike, push_arrivals, push_chain, push_circle, push_ended, push_forks,
     push_gathered, push_kept, push_loops, push_names, push_own_join, put_controls, statements_of,
 };
 use run_views::{push_between, push_lock};

@@ -15,7 +15,6 @@ mod slips;
 mod sources;
 mod spent;
 mod strikes;
-mod words;
 
 pub use counts::push_counts;
 pub use details::push_stuck_details;

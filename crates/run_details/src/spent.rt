@@ -1,13 +1,12 @@
 // What is told of a run that has spent its limits, after its front.
 
 use crate::halted::Halted;
-use crate::words::plural;
 use call_cases::Request;
 use gp_base::limits::{MOST_SUBTHREADS, MOST_TURNS};
 use gp_base::{End, Limits, ThreadNo};
 use one_thread::{PlainRun, Step, run_plain, stand_before};
 use run_counts::{Counting, Loop};
-use run_hints::{Place, Tasks, busiest, push_ended_threads, push_loops, push_outer};
+use run_hints::{Place, Tasks, busiest, plural, push_ended_threads, push_loops, push_outer};
 use std::alloc::{AllocError, Global};
 use task_ast::SyncOp;
 use text_pieces::Piece::{Number, Word};

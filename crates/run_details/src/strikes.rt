@@ -1,12 +1,11 @@
 // Which of the faults of a list strike a run.
 
-use crate::words::plural;
 use call_cases::Request;
 use gp_audit::restarts_of;
 use gp_base::limits::MOST_SUBTHREADS;
 use gp_base::{Fault, Restart};
 use one_thread::PlainRun;
-use run_hints::{at, put};
+use run_hints::{at, plural, put};
 use run_views::push_between;
 use std::alloc::{AllocError, Global};
 use std::collections::BTreeSet;

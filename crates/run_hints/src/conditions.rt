@@ -87,7 +87,7 @@ fn push_condition(
             Word(b", "),
             Number(turned.turns),
             Word(b" turn"),
-            Word(plural(turned.turns)),
+            plural(turned.turns),
             Word(b" since it was entered"),
         ],
     )?;

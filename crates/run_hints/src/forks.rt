@@ -47,7 +47,7 @@ pub fn push_forks(alloc: Global, text: &mut Vec<u8>, order: &[Step]) -> Result<(
             Word(b" forked "),
             Number(count),
             Word(b" thread"),
-            Word(plural(count)),
+            plural(count),
             Word(b"\n"),
         ],
     )

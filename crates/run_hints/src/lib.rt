@@ -43,4 +43,4 @@ pub use unforked::push_unforked;
 pub use unordered::push_unordered;
 pub use unset::push_unset;
 pub use waiting::{push_alike, push_kept, push_own_join};
-pub use words::{at, push_many, push_times, put};
+pub use words::{at, plural, put};

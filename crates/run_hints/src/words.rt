@@ -3,12 +3,7 @@
 use run_views::push_between;
 use std::alloc::{AllocError, Global};
 use text_pieces::Piece::{Number, Word};
-use text_pieces::push_pieces;
-
-/// Appends how many of a thing there are. The error is that memory is out.
-pub fn push_many(text: &mut Vec<u8>, count: u64, thing: &[u8]) -> Result<(), AllocError> {
-    push_counted(text, b"", count, thing, b"")
-}
+use text_pieces::{Piece, push_pieces};
 
 /// Appends how many of a thing there are between two words. The error is that memory is out.
 pub fn push_counted<'a>(
@@ -24,15 +19,15 @@ pub fn push_counted<'a>(
             Word(before),
             Number(count),
             Word(thing),
-            Word(plural(count)),
+            plural(count),
             Word(after),
         ],
     )
 }
 
-/// What the word for a thing ends in where there are so many.
-pub fn plural(count: u64) -> &'static [u8] {
-    if count == 1 { b"" } else { b"s" }
+/// The end of the word for a thing of which there are so many.
+pub fn plural(count: u64) -> Piece<'static> {
+    Word(if count == 1 { b"" } else { b"s" })
 }
 
 /// Appends how often something was. The error is that memory is out.
