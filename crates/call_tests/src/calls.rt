@@ -1,49 +1,13 @@
 // What no clause says: calls that succeed, and devices that fail at each of their calls.
 
-use crate::answers::{give, gives, status_with};
-use crate::cases::{Case, Devices, PLAIN, RUN, SOUND, files_of};
-use crate::runs::{ALONE, BARE, Run, come_to, comes_to};
+use call_fixtures::answers::{give, gives, status_with};
+use call_fixtures::cases::{Case, Devices, PLAIN, RUN, SOUND, files_of};
+use call_fixtures::programs::{ADD, EDGES, EMPTY, PRINTS, USAGE};
+use call_fixtures::runs::{ALONE, BARE, Run, come_to, comes_to};
 use gp_base::{MemShelf, Name, Seq, Shelf};
 use std::alloc::{AllocError, Global};
 use std::test::Fail;
 use std::thread::Threads;
-
-/// The line of words of no command.
-pub const USAGE: &str = "gprs: usage: run | one | check | soak\n";
-
-/// Nothing to do.
-pub const EMPTY: &str = "task main() { }";
-
-/// Two lines.
-pub const PRINTS: &str = "task main() { print 7; print 0042; }";
-
-/// Sums, quotients and remainders at the ends of the numbers.
-pub const EDGES: &str = "task main() {
-  var $a;
-  $a = 9223372036854775807;
-  print $a + 1;
-  print (0 - $a - 1) / -1;
-  print 7 / 0, 7 % 0, -7 / 2, -7 % 2;
-}
-";
-
-/// Two threads add to one total, each under its lock.
-pub const ADD: &str = "lock tally[1];
-record total[1] by tally;
-task add(n) {
-  var $t;
-  lock tally[0];
-  read total[0] into $t;
-  write total[0] = $t + n;
-  unlock tally[0];
-}
-task main() {
-  fork add(3);
-  fork add(4);
-  join 1;
-  join 2;
-}
-";
 
 const DEADLOCK: &str = "lock x[1];
 lock y[1];

@@ -1,9 +1,9 @@
 // Worked examples, with the bytes that they write as a whole, and the limits of a run.
 
-use crate::answers::{Answer, answer_over_batch, give, gives, gives_by, text_of};
-use crate::calls::ADD;
-use crate::cases::{Case, PLAIN, RUN};
-use crate::struck::CREWS;
+use call_fixtures::answers::{Answer, answer_over_batch, front_of, give, gives, gives_by, text_of};
+use call_fixtures::cases::{Case, PLAIN, RUN};
+use call_fixtures::crews::CREWS;
+use call_fixtures::programs::{ADD, ADDED};
 use gp_base::limits::{
     DEEPEST_NESTING, DEFAULT_SUBTHREADS, DEFAULT_TURNS, DEFAULT_WORKERS, LEAST_MOVES,
     LONGEST_DELAY, MOST_CELLS, MOST_FAULTS, MOST_FEED_CELLS, MOST_FIELDS, MOST_FILE_BYTES,
@@ -61,10 +61,6 @@ task main() {
 
 const STUCK: &str =
     "output\nstuck index thread 0 line 6\nrestarts\ncounts\nsubthreads 1\nrestarts 0\nredone 0\nunused 0\n";
-
-/// What the run of `ADD` writes.
-pub const ADDED: &str =
-    "output\nrecords\ntotal: 7\nrestarts\ncounts\nsubthreads 11\nrestarts 0\nredone 0\nunused 0\n";
 
 static AS_WRITTEN: [Case<'static>; 5] = [
     Case {
@@ -130,14 +126,6 @@ fn ends_with(answer: &Answer, counts: &str) -> bool {
     answer.status == 0
         && answer.error.written().is_empty()
         && text_of(answer.output.written()).ends_with(counts)
-}
-
-/// The text up to the restarts.
-pub fn front_of(answer: &Answer) -> &str {
-    match text_of(answer.output.written()).split_once("restarts\n") {
-        Some((front, _)) => front,
-        None => "",
-    }
 }
 
 // The run of the batch with its 40 faults, by these words, and that on one thread have the same lines and records.

@@ -1,30 +1,14 @@
 // Batches in which data becomes control: each settle is issued once all before it have retired, whoever runs the batch.
 // Orders and restarts were reckoned by hand from the rules of the order and of dependence.
 
-use crate::answers::{answer_of, give};
-use crate::calls::ADD;
-use crate::cases::{Case, PLAIN, RUN};
-use crate::runs::{ALONE, Run, comes_to};
-use crate::struck::CREWS;
+use call_fixtures::answers::{answer_of, give};
+use call_fixtures::cases::{Case, PLAIN, RUN};
+use call_fixtures::crews::CREWS;
+use call_fixtures::programs::{ADD, ROUTED};
+use call_fixtures::runs::{ALONE, Run, comes_to};
 use std::alloc::AllocError;
 use std::test::Fail;
 use std::thread::Threads;
-
-/// A record names the account that is written.
-pub const ROUTED: &str = "lock bank[3];
-record acct[3] by bank;
-task main() {
-  var i, $x;
-  lock bank[0];
-  write acct[0] = 2;
-  read acct[0] into $x;
-  unlock bank[0];
-  settle $x into i;
-  lock bank[i];
-  write acct[i] = 9;
-  unlock bank[i];
-}
-";
 
 // It names one that isn't there.
 const LOST: &str = "lock bank[3];

@@ -182,3 +182,11 @@ pub fn gives_by<R: Threads + Sync + AllocGlobal>(
     }
     Ok(true)
 }
+
+/// The text up to the restarts.
+pub fn front_of(answer: &Answer) -> &str {
+    match text_of(answer.output.written()).split_once("restarts\n") {
+        Some((front, _)) => front,
+        None => "",
+    }
+}

@@ -1,12 +1,11 @@
 // The call that goes on from a log: worked examples, logs that are refused, and runs that were stopped. The texts were
 // reckoned by hand from the rules of the order.
 
-use crate::answers::{Answer, answer_of, answer_through, give, gives, text_of};
-use crate::calls::{ADD, USAGE};
-use crate::cases::{Call, Case, Devices, RUN, SOUND};
 use crate::log::{ADD_LOG, MEETING, MET, MET_LOG, first_of};
-use crate::rows::ADDED;
-use crate::struck::{agrees, gate_over};
+use call_fixtures::answers::{Answer, answer_of, answer_through, give, gives, text_of};
+use call_fixtures::cases::{Call, Case, Devices, RUN, SOUND};
+use call_fixtures::entries::{agrees, gate_over};
+use call_fixtures::programs::{ADD, ADDED, USAGE};
 use std::alloc::AllocError;
 use std::test::Fail;
 use std::thread::Threads;

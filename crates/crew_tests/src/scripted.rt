@@ -2,10 +2,10 @@
 ghost use Rattle.std.specs.Prelude.{IfOk};
 ghost use Rattle.subthread.specs.Tasks.{Suits};
 
-use crate::calls::ADD;
-use crate::cases::{Case, PLAIN, files_of, words_of};
 use batch_calls::plan::{Begins, plan_of};
 use call_cases::{read_request, runs};
+use call_fixtures::cases::{Case, PLAIN, files_of, words_of};
+use call_fixtures::programs::ADD;
 use crew::{Crew, ScriptCrew};
 use engine::{EngineStop, Report, drive};
 use gp_base::{Event, MemShelf, MemSink, Nums, Pos, Seq};

@@ -1,12 +1,11 @@
 // The call that may wait, with lasting workers: the same rows as by the others.
 
-use crate::answers::{Answer, answered, tells};
-use crate::calls::{ADD, EMPTY};
-use crate::cases::{Case, PLAIN, RUN, files_of, words_of};
 use crate::gates::{Crowd, Meeting, THREE};
-use crate::rows::ADDED;
-use crate::struck::{gate_over, is_entered_as_posted};
 use batch_calls::gprs_run_pipe;
+use call_fixtures::answers::{Answer, answered, tells};
+use call_fixtures::cases::{Case, PLAIN, RUN, files_of, words_of};
+use call_fixtures::entries::{gate_over, is_entered_as_posted};
+use call_fixtures::programs::{ADD, ADDED, EMPTY};
 use gp_base::{FreeGate, Gate, MemShelf, MemSink, Seq};
 use std::alloc::AllocError;
 use std::sync::{Arc, Wait};

@@ -1,12 +1,12 @@
 // Runs that faults strike, whoever carries them out: the worked examples, and a batch of transfers.
 
-use crate::answers::{Answer, answer_of, answer_through, give, gives_by, text_of};
-use crate::calls::{ADD, EDGES, EMPTY};
-use crate::cases::{Case, PLAIN, RUN};
-use crate::runs::{ALONE, BARE, Run, come_to, comes_to};
-use gp_base::{Event, Gate, Journal, Pos};
+use call_fixtures::answers::{answer_of, give, gives_by, text_of};
+use call_fixtures::cases::{Case, PLAIN, RUN};
+use call_fixtures::crews::{CREWS, PAIRS};
+use call_fixtures::entries::enter_as_posted;
+use call_fixtures::programs::{ADD, EDGES, EMPTY};
+use call_fixtures::runs::{ALONE, BARE, Run, come_to, comes_to};
 use std::alloc::{AllocError, Global};
-use std::sync::atomic::{AtomicU64, Ordering};
 use std::test::Fail;
 use std::thread::Threads;
 
@@ -67,20 +67,6 @@ fn ten_records(alloc: Global) -> Result<String, AllocError> {
     )?;
     Ok(text)
 }
-
-/// The crews, in the words that name them.
-pub static CREWS: [&str; 10] = [
-    " --crew one",
-    " --crew wave --workers 1",
-    " --crew wave --workers 2",
-    " --crew wave --workers 64",
-    " --crew board --workers 1",
-    " --crew board --workers 2",
-    " --crew board --workers 64",
-    " --crew steal --workers 1",
-    " --crew steal --workers 2",
-    " --crew steal --workers 64",
-];
 
 // A fault strikes the first of the two threads that add to one total.
 const ADDS: Case<'static> = Case {
@@ -295,126 +281,6 @@ fn a_batch_of_transfers_keeps_its_sum(rt: HostRuntime) -> Result<(), Fail> {
     assert!(rt; gives_by(&rt, &SOAK, &CREWS)?);
     Ok(())
 }
-
-/// A gate that lets all tasks pass, and counts those of each position.
-#[derive(Drop)]
-pub struct Counting {
-    entries: Vec<AtomicU64>,
-}
-
-impl Gate for Counting {
-    fn enter(&self, pos: Pos) {
-        if let Some(count) = self.entries.get(pos.0 as usize) {
-            let _ = count.fetch_add(1, Ordering::SeqCst);
-        }
-    }
-}
-
-/// A gate over so many positions, which no task has entered.
-pub fn gate_over(alloc: Global, positions: usize) -> Result<Counting, AllocError> {
-    let mut entries = Vec::new(alloc);
-    for _ in 0..positions {
-        entries.push(AtomicU64::new(0))?;
-    }
-    Ok(Counting { entries })
-}
-
-// How often the journal posts each of so many positions.
-fn posts_of(alloc: Global, journal: &Journal, positions: usize) -> Result<Vec<u64>, AllocError> {
-    let mut posts = Vec::from_elem(alloc, 0u64, positions)?;
-    for event in journal.events.as_slice() {
-        if let Event::Post(position, _) = event {
-            if let Some(count) = posts.get_mut(position.0 as usize) {
-                *count = count.saturating_add(1);
-            }
-        }
-    }
-    Ok(posts)
-}
-
-/// Whether the gate counted these posts, as many as there are positions at least.
-pub fn agrees(gate: &Counting, posts: &[u64], positions: usize) -> bool {
-    let mut posted = 0u64;
-    for (entries, count) in gate.entries.iter().zip(posts.iter()) {
-        if entries.load(Ordering::SeqCst) != *count {
-            return false;
-        }
-        posted = posted.saturating_add(*count);
-    }
-    posted >= positions as u64
-}
-
-/// Whether a call ended with status 0, and each position entered its gate as often as its journal posts it.
-pub fn is_entered_as_posted(
-    alloc: Global,
-    answer: &Answer,
-    gate: &Counting,
-    positions: usize,
-) -> Result<bool, AllocError> {
-    let posts = posts_of(alloc, &answer.journal, positions)?;
-    Ok(answer.status == 0 && agrees(gate, &posts, positions))
-}
-
-// Each position enters the gate as often as the journal posts it.
-fn enters_as_posted<R: Threads + Sync + AllocGlobal>(
-    rt: &R,
-    case: &Case<'_>,
-    positions: usize,
-) -> Result<bool, AllocError> {
-    let alloc = rt.alloc();
-    let gate = gate_over(alloc, positions)?;
-    let answer = answer_through(rt, case, &gate)?;
-    is_entered_as_posted(alloc, &answer, &gate, positions)
-}
-
-// The same by each of these crews.
-fn enters_by<R: Threads + Sync + AllocGlobal>(
-    rt: &R,
-    case: &Case<'_>,
-    crews: &[&str],
-    positions: usize,
-) -> Result<bool, AllocError> {
-    let alloc = rt.alloc();
-    for crew in crews {
-        let words = format!(in alloc; "{}{crew}", case.words)?;
-        let is_told = enters_as_posted(
-            rt,
-            &Case {
-                words: words.as_str(),
-                ..*case
-            },
-            positions,
-        );
-        drop(words);
-        if !is_told? {
-            return Ok(false);
-        }
-    }
-    Ok(true)
-}
-
-/// Each position of each of these cases enters the gate as often as the journal posts it, by each of these crews.
-pub fn enter_as_posted<R: Threads + Sync + AllocGlobal>(
-    rt: &R,
-    cases: &[Case<'_>],
-    crews: &[&str],
-    positions: usize,
-) -> Result<bool, AllocError> {
-    for case in cases {
-        if !enters_by(rt, case, crews, positions)? {
-            return Ok(false);
-        }
-    }
-    Ok(true)
-}
-
-/// The crews of one and two workers, in the words that name them.
-pub static PAIRS: [&str; 4] = [
-    " --crew one",
-    " --crew wave --workers 2",
-    " --crew board --workers 2",
-    " --crew steal --workers 2",
-];
 
 static ENTERED: [Case<'static>; 2] = [
     Case {

@@ -1,12 +1,11 @@
 // The call that runs by checkpoints: the worked examples, whoever carries them out.
 
-use crate::answers::{answer_over_batch, give, gives};
-use crate::calls::{ADD, USAGE};
-use crate::cases::{Call, Case, Devices, PLAIN, RUN, SOUND};
-use crate::rows::{ADDED, front_of};
-use crate::runs::{Run, come_to};
-use crate::settles::ROUTED;
-use crate::struck::{CREWS, PAIRS, enter_as_posted};
+use call_fixtures::answers::{answer_over_batch, front_of, give, gives};
+use call_fixtures::cases::{Call, Case, Devices, PLAIN, RUN, SOUND};
+use call_fixtures::crews::{CREWS, PAIRS};
+use call_fixtures::entries::enter_as_posted;
+use call_fixtures::programs::{ADD, ADDED, ROUTED, USAGE};
+use call_fixtures::runs::{Run, come_to};
 use std::alloc::AllocError;
 use std::test::Fail;
 use std::thread::Threads;
