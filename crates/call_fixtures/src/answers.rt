@@ -1,9 +1,10 @@
 // What a call answered.
 ghost use Rattle.gp_base.specs.Files.{HasDistinctNames};
 
-use crate::cases::{Call, Case, files_of, words_of};
+use crate::cases::{Call, Case, files_of};
 use audit_calls::audit_run;
 use batch_calls::{ckpt_run, gprs_run, log_run};
+use batch_fixtures::files::words_of;
 use call_cases::Outcome;
 use gp_base::{FreeGate, Gate, Journal, MemShelf, MemSink, Name, Seq, Text};
 use resume_calls::resume_run;

@@ -1,7 +1,8 @@
 // What a call is handed, and what it is to answer.
-ghost use Rattle.std.specs.Prelude.{◌≡◌, ◌++◌, ◌∷◌, [], IfOk, OnOk};
+ghost use Rattle.std.specs.Prelude.{IfOk};
 ghost use Rattle.gp_base.specs.Files.{HasDistinctNames};
 
+use batch_fixtures::files::put;
 use gp_base::{Name, Seq, Text};
 use std::alloc::{AllocError, Global};
 
@@ -65,32 +66,6 @@ pub const RUN: Case<'static> = Case {
 
 /// The same for a case that is made while a test runs.
 pub static PLAIN: Case<'static> = RUN;
-
-/// The words between spaces.
-pub fn words_of(alloc: Global, text: &str) -> Result<Vec<String>, AllocError> {
-    let mut words = Vec::new(alloc);
-    if text.is_empty() {
-        return Ok(words);
-    }
-    for word in text.split(' ') {
-        words.push(String::from_str(alloc, word)?)?;
-    }
-    Ok(words)
-}
-
-// Puts a file at the end.
-fn put(
-    alloc: Global,
-    files: &mut Seq<(Name, Text)>,
-    name: &[u8],
-    text: &[u8],
-) -> Result<(), AllocError>
-    ensures { OnOk result (files.new ≡ files.old ++ (name.now, text.now) ∷ []) }
-{
-    let name = Name::from_slice(alloc, name)?;
-    let text = Text::from_slice(alloc, text)?;
-    files.push((name, text))
-}
 
 /// The files of the case, each by its name.
 pub fn files_of(alloc: Global, case: &Case<'_>) -> Result<Seq<(Name, Text)>, AllocError>

@@ -6,5 +6,5 @@ pub mod answers;
 pub mod cases;
 pub mod crews;
 pub mod entries;
-pub mod programs;
+pub mod plans;
 pub mod runs;

@@ -1,8 +1,8 @@
 // What no clause says: calls that succeed, and devices that fail at each of their calls.
 
+use batch_fixtures::programs::{ADD, EDGES, EMPTY, PRINTS, USAGE};
 use call_fixtures::answers::{give, gives, status_with};
 use call_fixtures::cases::{Case, Devices, PLAIN, RUN, SOUND, files_of};
-use call_fixtures::programs::{ADD, EDGES, EMPTY, PRINTS, USAGE};
 use call_fixtures::runs::{ALONE, BARE, Run, come_to, comes_to};
 use gp_base::{MemShelf, Name, Seq, Shelf};
 use std::alloc::{AllocError, Global};

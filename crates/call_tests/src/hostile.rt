@@ -1,9 +1,9 @@
 // Hostile use: texts that are cut off, devices that fail at each of their calls, files that are refused, and schedules.
 // The fault strikes the first of the two threads that add to one total.
 
+use batch_fixtures::programs::{ADD, EMPTY, PRINTS, USAGE};
 use call_fixtures::answers::{answer_of, answer_over_batch, give, gives, tells, text_of};
 use call_fixtures::cases::{Case, Devices, PLAIN, RUN, SOUND};
-use call_fixtures::programs::{ADD, EMPTY, PRINTS, USAGE};
 use gp_base::MemSink;
 use std::alloc::{AllocError, Global};
 use std::test::Fail;

@@ -1,9 +1,9 @@
 // Worked examples, with the bytes that they write as a whole, and the limits of a run.
 
+use batch_fixtures::programs::{ADD, ADDED};
 use call_fixtures::answers::{Answer, answer_over_batch, front_of, give, gives, gives_by, text_of};
 use call_fixtures::cases::{Case, PLAIN, RUN};
 use call_fixtures::crews::CREWS;
-use call_fixtures::programs::{ADD, ADDED};
 use gp_base::limits::{
     DEEPEST_NESTING, DEFAULT_SUBTHREADS, DEFAULT_TURNS, DEFAULT_WORKERS, LEAST_MOVES,
     LONGEST_DELAY, MOST_CELLS, MOST_FAULTS, MOST_FEED_CELLS, MOST_FIELDS, MOST_FILE_BYTES,

@@ -1,9 +1,9 @@
 // Runs of which two tasks, or three, are at a gate at the same time. No clause says that two threads run, nor that no more
 // do than were asked for.
 
+use batch_fixtures::programs::ADD;
 use call_fixtures::answers::answer_through;
 use call_fixtures::cases::{Call, Case, PLAIN, RUN};
-use call_fixtures::programs::ADD;
 use gp_base::{Gate, Pos};
 use std::alloc::AllocError;
 use std::sync::atomic::{AtomicU64, Ordering};

@@ -2,13 +2,13 @@
 ghost use Rattle.std.specs.Prelude.{IfOk};
 ghost use Rattle.subthread.specs.Tasks.{Suits};
 
-use batch_calls::plan::{Begins, plan_of};
-use call_cases::{read_request, runs};
-use call_fixtures::cases::{Case, PLAIN, files_of, words_of};
-use call_fixtures::programs::ADD;
+use batch_calls::plan::Begins;
+use batch_fixtures::programs::ADD;
+use call_fixtures::cases::{Case, PLAIN, files_of};
+use call_fixtures::plans::planned;
 use crew::{Crew, ScriptCrew};
 use engine::{EngineStop, Report, drive};
-use gp_base::{Event, MemShelf, MemSink, Nums, Pos, Seq};
+use gp_base::{Event, MemSink, Nums, Pos, Seq};
 use std::alloc::{AllocError, AllocFailed, Global};
 use std::test::Fail;
 use std::thread::Threads;
@@ -61,30 +61,15 @@ fn plan_of_adders(alloc: Global, faults: &str) -> Result<(Work, Begins), Fail>
     ensures { IfOk result (λ made. Suits made.0 made.1.layout made.1.inputs made.1.limits) }
 {
     let case = Case {
-        words: "run p.gp --faults f.csv",
         program: ADD,
         faults,
         ..PLAIN
     };
-    let words = words_of(alloc, case.words)?;
     let files = files_of(alloc, &case)?;
-    let mut shelf = MemShelf::new(alloc, files, Seq::new(alloc));
-    let read = read_request(alloc, &words, &mut shelf);
-    drop(words);
-    drop(shelf);
-    let request = match read {
-        Ok(request) => request,
-        Err(refusal) => {
-            drop(refusal);
-            return Err(Fail::from("the program was not read"));
-        }
-    };
-    if !runs(request.asked.command) {
-        drop(request);
-        return Err(Fail::from("the program is not to be run"));
+    match planned(alloc, "run p.gp --faults f.csv", files, Recheck::once())? {
+        Some(plan) => Ok(plan),
+        None => Err(Fail::from("the program is not to be run")),
     }
-    let (work, _plan, begins) = plan_of(alloc, request, Recheck::once())?;
-    Ok((work, begins))
 }
 
 // The report of a run that did not stop, and wrote nothing.

@@ -1,10 +1,10 @@
 // Batches in which data becomes control: each settle is issued once all before it have retired, whoever runs the batch.
 // Orders and restarts were reckoned by hand from the rules of the order and of dependence.
 
+use batch_fixtures::programs::{ADD, ROUTED};
 use call_fixtures::answers::{answer_of, give};
 use call_fixtures::cases::{Case, PLAIN, RUN};
 use call_fixtures::crews::CREWS;
-use call_fixtures::programs::{ADD, ROUTED};
 use call_fixtures::runs::{ALONE, Run, comes_to};
 use std::alloc::AllocError;
 use std::test::Fail;

@@ -1,10 +1,10 @@
 // Runs that faults strike, whoever carries them out: the worked examples, and a batch of transfers.
 
+use batch_fixtures::programs::{ADD, EDGES, EMPTY};
 use call_fixtures::answers::{answer_of, give, gives_by, text_of};
 use call_fixtures::cases::{Case, PLAIN, RUN};
 use call_fixtures::crews::{CREWS, PAIRS};
 use call_fixtures::entries::enter_as_posted;
-use call_fixtures::programs::{ADD, EDGES, EMPTY};
 use call_fixtures::runs::{ALONE, BARE, Run, come_to, comes_to};
 use std::alloc::{AllocError, Global};
 use std::test::Fail;

@@ -2,10 +2,11 @@
 
 use crate::gates::{Crowd, Meeting, THREE};
 use batch_calls::gprs_run_pipe;
+use batch_fixtures::files::words_of;
+use batch_fixtures::programs::{ADD, ADDED, EMPTY};
 use call_fixtures::answers::{Answer, answered, tells};
-use call_fixtures::cases::{Case, PLAIN, RUN, files_of, words_of};
+use call_fixtures::cases::{Case, PLAIN, RUN, files_of};
 use call_fixtures::entries::{gate_over, is_entered_as_posted};
-use call_fixtures::programs::{ADD, ADDED, EMPTY};
 use gp_base::{FreeGate, Gate, MemShelf, MemSink, Seq};
 use std::alloc::AllocError;
 use std::sync::{Arc, Wait};

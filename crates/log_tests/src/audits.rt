@@ -1,9 +1,9 @@
 // Audits of traces: the worked examples, and the traces of runs that faults strike.
 
+use batch_fixtures::programs::{ADD, EMPTY, USAGE};
 use call_fixtures::answers::{Answer, answer_of, give, text_of};
 use call_fixtures::cases::{Call, Case, PLAIN, RUN};
 use call_fixtures::crews::CREWS;
-use call_fixtures::programs::{ADD, EMPTY, USAGE};
 use gp_base::{Name, Text};
 use soak_batch::soak_files;
 use std::alloc::AllocError;

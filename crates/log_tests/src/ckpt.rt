@@ -1,10 +1,10 @@
 // The call that runs by checkpoints: the worked examples, whoever carries them out.
 
+use batch_fixtures::programs::{ADD, ADDED, ROUTED, USAGE};
 use call_fixtures::answers::{answer_over_batch, front_of, give, gives};
 use call_fixtures::cases::{Call, Case, Devices, PLAIN, RUN, SOUND};
 use call_fixtures::crews::{CREWS, PAIRS};
 use call_fixtures::entries::enter_as_posted;
-use call_fixtures::programs::{ADD, ADDED, ROUTED, USAGE};
 use call_fixtures::runs::{Run, come_to};
 use std::alloc::AllocError;
 use std::test::Fail;

@@ -1,10 +1,10 @@
 // The call that keeps a log of its run: worked examples, whoever carries them out, and devices that fail. The rows were
 // reckoned by hand from the rules of the order.
 
+use batch_fixtures::programs::{ADD, ADDED, USAGE};
 use call_fixtures::answers::{Answer, answer_over_batch, give, gives, gives_by};
 use call_fixtures::cases::{Call, Case, Devices, RUN, SOUND};
 use call_fixtures::entries::enter_as_posted;
-use call_fixtures::programs::{ADD, ADDED, USAGE};
 use std::alloc::{AllocError, Global};
 use std::test::Fail;
 use std::thread::Threads;

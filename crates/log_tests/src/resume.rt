@@ -2,10 +2,10 @@
 // reckoned by hand from the rules of the order.
 
 use crate::log::{ADD_LOG, MEETING, MET, MET_LOG, first_of};
+use batch_fixtures::programs::{ADD, ADDED, USAGE};
 use call_fixtures::answers::{Answer, answer_of, answer_through, give, gives, text_of};
 use call_fixtures::cases::{Call, Case, Devices, RUN, SOUND};
 use call_fixtures::entries::{agrees, gate_over};
-use call_fixtures::programs::{ADD, ADDED, USAGE};
 use std::alloc::AllocError;
 use std::test::Fail;
 use std::thread::Threads;

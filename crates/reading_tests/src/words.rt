@@ -1,19 +1,11 @@
 // Words of commands, and words of no command.
+use batch_fixtures::files::words_of;
 use command_line::{
     Asked, Command, CrewKind, read_ckpt_words, read_waiting_words, read_words, wants_pipe,
 };
 use gp_base::limits::{DEFAULT_SUBTHREADS, DEFAULT_TURNS};
 use std::alloc::{AllocError, Global};
 use std::test::Fail;
-
-// The words between spaces.
-fn words_of(alloc: Global, text: &str) -> Result<Vec<String>, AllocError> {
-    let mut words = Vec::new(alloc);
-    for word in text.split(' ') {
-        words.push(String::from_str(alloc, word)?)?;
-    }
-    Ok(words)
-}
 
 // Words, and the command, the program, the turns and the subthreads that they ask for.
 type Told = (&'static str, Command, &'static str, u64, u32);
@@ -77,8 +69,9 @@ fn words_of_a_command(rt: HostRuntime) -> Result<(), Fail> {
     Ok(())
 }
 
-const NO_COMMANDS: [&str; 31] = [
+const NO_COMMANDS: [&str; 32] = [
     "",
+    " ",
     "run",
     "fly p.gp",
     "Run p.gp",
@@ -248,7 +241,7 @@ const CHECKPOINTS: [(&str, Option<u32>); 13] = [
     ("ckpt p.gp --crew pipe", None),
     ("ckpt", None),
     ("run p.gp", None),
-    ("", None),
+    (" ", None),
 ];
 
 #[test]

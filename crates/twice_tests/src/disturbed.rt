@@ -1,34 +1,18 @@
 // Runs of which walks are disturbed, or the sums of what they leave at rest, or that of the feeds. What they write was
 // reckoned by hand: the first walk of a run is that of position 0, and where two threads add to one total, the first that
 // has a cell is that of position 4.
-ghost use Rattle.std.specs.Prelude.{◌≡◌, ◌<◌, ◌%◌, ◌++◌, ◌∷◌, [], IfOk, OnOk};
+ghost use Rattle.std.specs.Prelude.{◌≡◌, ◌<◌, ◌%◌, IfOk};
 ghost use Rattle.gp_base.specs.Files.{HasDistinctNames};
 
 use batch_calls::log_rechecked;
+use batch_fixtures::files::{put, words_of};
+use batch_fixtures::programs::{ADD, ADDED};
 use gp_base::{Feed, FreeGate, MemShelf, MemSink, Name, Nums, Seq, Text};
 use std::alloc::{AllocError, Global};
 use std::test::Fail;
 use std::thread::Threads;
 use subthread::{Disturbance, Recheck};
 use twice_calls::run_told;
-
-/// Two threads add to one total.
-pub const ADD: &str = "lock tally[1];
-record total[1] by tally;
-task add(n) {
-  var $t;
-  lock tally[0];
-  read total[0] into $t;
-  write total[0] = $t + n;
-  unlock tally[0];
-}
-task main() {
-  fork add(3);
-  fork add(4);
-  join 1;
-  join 2;
-}
-";
 
 // A cell is written under its lock at position 1. All lines before the settle are published when position 3 begins with
 // it, and position 4 is the next that has the cell.
@@ -91,9 +75,6 @@ const RATES: &str = "1,2\n3,4\n5,6\n7,8\n9,10\n11,12\n13,14\n15,16\n17,18\n";
 // A fault strikes position 4, and is reported three issues later.
 const FAULT: &str = "4,0,3,5\n";
 
-const ADDED: &str =
-    "output\nrecords\ntotal: 7\nrestarts\ncounts\nsubthreads 11\nrestarts 0\nredone 0\nunused 0\n";
-
 const ADD_LOG: &str =
     "0 7 ; 0 ; ;\n1 7 ; 0 ; 0 0 ;\n2 7 ; 0 0 ; ;\n3 7 ; 0 ; 0 0 ;\n4 7 ; 0 0 ; ; 0 3\n5 7 ; 0 0 ; ;\n6 7 ; 0 0 ; ;\n7 7 ; 0 3 ; ; 0 7\n8 7 ; 0 ; ;\n9 7 ; 0 3 ; ;\n10 7 ; 0 ; ;\n";
 
@@ -115,29 +96,6 @@ impl Answer {
             && self.output.written() == output.as_bytes()
             && self.error.written() == error.as_bytes()
     }
-}
-
-/// The words between spaces.
-pub fn words_of(alloc: Global, text: &str) -> Result<Vec<String>, AllocError> {
-    let mut words = Vec::new(alloc);
-    for word in text.split(' ') {
-        words.push(String::from_str(alloc, word)?)?;
-    }
-    Ok(words)
-}
-
-// Puts a file at the end.
-fn put(
-    alloc: Global,
-    files: &mut Seq<(Name, Text)>,
-    name: &[u8],
-    text: &[u8],
-) -> Result<(), AllocError>
-    ensures { OnOk result (files.new ≡ files.old ++ (name.now, text.now) ∷ []) }
-{
-    let name = Name::from_slice(alloc, name)?;
-    let text = Text::from_slice(alloc, text)?;
-    files.push((name, text))
 }
 
 /// A program, its faults, and the rows of its feed.

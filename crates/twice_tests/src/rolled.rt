@@ -2,11 +2,12 @@
 ghost use Rattle.std.specs.Prelude.{IfOk};
 ghost use Rattle.subthread.specs.Tasks.{Suits};
 
-use crate::disturbed::{ADD, files_of, words_of};
-use batch_calls::plan::{Begins, plan_of};
-use call_cases::{read_request, runs};
+use crate::disturbed::files_of;
+use batch_calls::plan::Begins;
+use batch_fixtures::programs::ADD;
+use call_fixtures::plans::planned;
 use crew::InlineCrew;
-use gp_base::{FreeGate, MemShelf, MemSink, Seq};
+use gp_base::{FreeGate, MemSink, Seq};
 use gp_checkpoint::{EngineStop, Report, ckpt_drive};
 use std::alloc::Global;
 use std::test::Fail;
@@ -17,24 +18,11 @@ use subthread::{Recheck, Work};
 fn plan_of_adders(alloc: Global) -> Result<(Work, Begins), Fail>
     ensures { IfOk result (λ made. Suits made.0 made.1.layout made.1.inputs made.1.limits) }
 {
-    let words = words_of(alloc, "run p.gp --faults f.csv")?;
-    let mut shelf = MemShelf::new(alloc, files_of(alloc, ADD)?, Seq::new(alloc));
-    let read = read_request(alloc, &words, &mut shelf);
-    drop(words);
-    drop(shelf);
-    let request = match read {
-        Ok(request) => request,
-        Err(refusal) => {
-            drop(refusal);
-            return Err(Fail::from("the program was not read"));
-        }
-    };
-    if !runs(request.asked.command) {
-        drop(request);
-        return Err(Fail::from("the program is not to be run"));
+    let files = files_of(alloc, ADD)?;
+    match planned(alloc, "run p.gp --faults f.csv", files, Recheck::twice())? {
+        Some(plan) => Ok(plan),
+        None => Err(Fail::from("the program is not to be run")),
     }
-    let (work, _plan, begins) = plan_of(alloc, request, Recheck::twice())?;
-    Ok((work, begins))
 }
 
 // Their run by the crew of the calling thread, with a checkpoint after each four subthreads.

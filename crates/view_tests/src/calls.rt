@@ -1,8 +1,7 @@
 // Calls by their rows, and what the tests of this crate share.
-ghost use Rattle.std.specs.Prelude.{◌≡◌, ◌++◌, ◌∷◌, [], OnOk};
-
+use batch_fixtures::files::{put, words_of};
 use explain_calls::explain_run;
-use gp_base::{MemShelf, MemSink, Name, Seq, Text};
+use gp_base::{MemShelf, MemSink, Seq};
 use std::alloc::{AllocError, Global};
 
 /// The words of a call, its program, which stands in the folder bom too, the file moves.csv beside it, and what it has to
@@ -16,10 +15,7 @@ pub type Row = (
     &'static str,
 );
 
-/// A program that does nothing.
-pub const EMPTY: &str = "task main() { }";
-
-/// What is told of it.
+/// What is told of a program that does nothing.
 pub const EMPTY_TOLD: &str = "ok
 1 subthread, 1 thread, 0 locks taken; at most 1 subthread side by side, as threads, locks, forks and joins allow
 arithmetic: exact in every line that ran
@@ -55,29 +51,6 @@ task main() {
   join 1;
 }
 ";
-
-/// The words between spaces.
-pub fn words_of(alloc: Global, text: &str) -> Result<Vec<String>, AllocError> {
-    let mut words = Vec::new(alloc);
-    for word in text.split(' ') {
-        words.push(String::from_str(alloc, word)?)?;
-    }
-    Ok(words)
-}
-
-/// Puts a file of this name after others.
-pub fn put(
-    alloc: Global,
-    files: &mut Seq<(Name, Text)>,
-    name: &[u8],
-    text: &[u8],
-) -> Result<(), AllocError>
-    ensures { OnOk result (files.new ≡ files.old ++ (name.now, text.now) ∷ []) }
-{
-    let name = Name::from_slice(alloc, name)?;
-    let text = Text::from_slice(alloc, text)?;
-    files.push((name, text))
-}
 
 // Whether a call comes to what its row says.
 fn is_told(alloc: Global, row: &Row) -> Result<bool, AllocError> {

@@ -1,6 +1,7 @@
 // What no clause says: what leads to a cause that lies elsewhere: reads that come too early, forks that were left out, the forks
 // of a thread, faults that strike nothing, and the place in a line that is at fault; each with the words as they are written.
 use crate::calls::{Row, are_told};
+use batch_fixtures::programs::ADD;
 use std::test::Fail;
 
 // Thread 2 reads at position 7 what thread 1 writes at the positions 4 and 9.
@@ -379,23 +380,6 @@ const PLACES: [Row; 5] = [
 ];
 
 // The run of the tour.
-const ADD: &str = "lock tally[1];
-record total[1] by tally;
-task add(n) {
-  var $t;
-  lock tally[0];
-  read total[0] into $t;
-  write total[0] = $t + n;
-  unlock tally[0];
-}
-task main() {
-  fork add(3);
-  fork add(4);
-  join 1;
-  join 2;
-}
-";
-
 // The first makes the restart `1: front 8 struck 4 try 0 redo 4 6 7`.
 const STRUCK: &str = "4,0,3,1
 6,0,30,1

@@ -1,5 +1,6 @@
 // What no clause says: what is told of words, programs and files that are refused, as a table of mistakes.
-use crate::calls::{EMPTY, EMPTY_TOLD, FEED, Row, are_told};
+use crate::calls::{EMPTY_TOLD, FEED, Row, are_told};
+use batch_fixtures::programs::EMPTY;
 use std::test::Fail;
 
 const USAGE: &str = "gprs_view: usage: order | why | timeline | explain\n";

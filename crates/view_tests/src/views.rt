@@ -1,28 +1,13 @@
 // What no clause says: calls that succeed, with the texts as they are written.
 ghost use Rattle.std.specs.Prelude.{◌≤◌};
 
-use crate::calls::{DEADLOCK, put, words_of};
+use crate::calls::DEADLOCK;
+use batch_fixtures::files::{put, words_of};
+use batch_fixtures::programs::ADD;
 use gp_base::{MemShelf, MemSink, Seq};
 use std::alloc::{AllocError, Global};
 use std::test::Fail;
 use view_calls::view_run;
-
-const ADD: &str = "lock tally[1];
-record total[1] by tally;
-task add(n) {
-  var $t;
-  lock tally[0];
-  read total[0] into $t;
-  write total[0] = $t + n;
-  unlock tally[0];
-}
-task main() {
-  fork add(3);
-  fork add(4);
-  join 1;
-  join 2;
-}
-";
 
 const ADDED: &str = "order
 0 thread 0 line 0 start prints 0 holds
