@@ -1,84 +1,63 @@
 // The arguments of a command, one parse by it, and the values that the parse found.
-ghost use Rattle.std.specs.Prelude.{◌≡◌, ◌≤◌, false, true, map, option_map, string_bytes, IfOk, IfSome};
-ghost use Rattle.clap.specs.Words.{App, app_of, found_of, is_simple_and_free, rows_of, rule_of, with_rule, first_of};
-ghost use Rattle.command_line.specs.meaning.Arguments.{option_of, flag_of, is_on, positional, number_of, number_or};
-ghost use Rattle.command_line.specs.meaning.Words.{begins_with, texts};
-ghost use Rattle.command_line.specs.Arguments.{IsParsedAs};
+ghost use Rattle.std.specs.Prelude.{◌≡◌, ◌≤◌, false, true, option_map, IfOk, IfSome, Some};
+ghost use Rattle.clap.specs.Words.{app_of, found_of, is_simple_and_free, rows_of, rule_of, first_of};
+ghost use Rattle.command_line.specs.meaning.Arguments.{is_on, number_of, number_or};
+ghost use Rattle.command_line.specs.meaning.Words.{accepted, accepted_as, begins_with, texts};
+ghost use Rattle.command_line.specs.Arguments.{app_with, found_rows, rule_for};
 
 use crate::number::number_in;
 use clap::error::ErrorKind;
 use clap::{Arg, ArgAction, ArgMatches, Command};
 use std::alloc::{AllocError, Global};
 
-// A word that has to stand there.
-fn positional<'a>(alloc: Global, name: &'a str) -> Arg<'a>
-    ensures rule { rule_of result ≡ positional name.entry.now }
+/// An argument that a command takes: a word that has to stand there, or one that may be left out, which is an option
+/// with a value or a flag without one.
+#[derive(Clone, Copy)]
+pub enum Argument<'a> {
+    Positional(&'a str),
+    Valued(&'a str),
+    Flag(&'a str),
+}
+
+// The argument as `clap` has it.
+fn arg_of<'a>(alloc: Global, argument: &Argument<'a>) -> Arg<'a>
+    ensures rule { rule_of result ≡ rule_for argument.now }
     ensures local { result.global ≡ false }
 {
-    Arg::new(alloc, name).required(true)
+    match *argument {
+        Argument::Positional(name) => Arg::new(alloc, name).required(true),
+        Argument::Valued(name) => Arg::new(alloc, name).long(name),
+        Argument::Flag(name) => Arg::new(alloc, name).long(name).action(ArgAction::SetTrue),
+    }
 }
 
-// An option with a value, which may be left out.
-fn option<'a>(alloc: Global, name: &'a str) -> Arg<'a>
-    ensures rule { rule_of result ≡ option_of name.entry.now }
-    ensures local { result.global ≡ false }
-{
-    Arg::new(alloc, name).long(name)
-}
-
-// A flag, which has no value and may be left out.
-fn flag<'a>(alloc: Global, name: &'a str) -> Arg<'a>
-    ensures rule { rule_of result ≡ flag_of name.entry.now }
-    ensures local { result.global ≡ false }
-{
-    Arg::new(alloc, name).long(name).action(ArgAction::SetTrue)
-}
-
-/// The command with a word that has to stand there. Here and below a command that is being built is a result: once
-/// memory was out, nothing more is added to it.
-pub fn with_positional<'a>(
+// A command of this name that takes these arguments, and has no help flag.
+fn command_of<'a>(
     alloc: Global,
-    command: Result<Command<'a>, AllocError>,
     name: &'a str,
+    arguments: &[Argument<'a>],
 ) -> Result<Command<'a>, AllocError>
-    ensures { (app : App) → IfOk command.entry (λ c. app_of c ≡ app)
-        → IfOk result (λ placed. app_of placed ≡ with_rule app (positional name.entry.now)) }
+    ensures { IfOk result (λ command. app_of command ≡ app_with name.entry.now arguments.entry.now) }
 {
-    command?.arg(positional(alloc, name))
+    let mut command = Command::new(alloc, name).disable_help_flag(true);
+    for argument in arguments {
+        command = command.arg(arg_of(alloc, argument))?;
+    }
+    Ok(command)
 }
 
-/// The command with an option that has a value and may be left out.
-pub fn with_option<'a>(
+/// The matches of the words by a command of this name that takes these arguments, or none where it does not take the
+/// words. The first word is any that stands for the command.
+pub fn taken<'a>(
     alloc: Global,
-    command: Result<Command<'a>, AllocError>,
     name: &'a str,
-) -> Result<Command<'a>, AllocError>
-    ensures { (app : App) → IfOk command.entry (λ c. app_of c ≡ app)
-        → IfOk result (λ opted. app_of opted ≡ with_rule app (option_of name.entry.now)) }
-{
-    command?.arg(option(alloc, name))
-}
-
-/// The command with a flag, which has no value and may be left out.
-pub fn with_flag<'a>(
-    alloc: Global,
-    command: Result<Command<'a>, AllocError>,
-    name: &'a str,
-) -> Result<Command<'a>, AllocError>
-    ensures { (app : App) → IfOk command.entry (λ c. app_of c ≡ app)
-        → IfOk result (λ flagged. app_of flagged ≡ with_rule app (flag_of name.entry.now)) }
-{
-    command?.arg(flag(alloc, name))
-}
-
-// The matches of the words, of which the first is the command's own, or none where the command does not take them.
-fn taken_by<'a>(
-    command: Command<'a>,
+    arguments: &[Argument<'a>],
     words: &'a [String],
 ) -> Result<Option<ArgMatches<'a>>, AllocError>
-    requires { is_simple_and_free (app_of command) ≡ true }
-    ensures { IfOk result (IsParsedAs (app_of command.entry) (map string_bytes words.entry.now)) }
+    requires { is_simple_and_free (app_with name.now arguments.now) ≡ true }
+    ensures { IfOk result (λ found. option_map found_rows found ≡ accepted (app_with name.entry.now arguments.entry.now) Some (texts words.entry.now)) }
 {
+    let command = command_of(alloc, name, arguments)?;
     match command.try_get_matches_from(words) {
         Ok(matches) => Ok(Some(matches)),
         Err(error) => {
@@ -93,16 +72,21 @@ fn taken_by<'a>(
     }
 }
 
-/// The same, where there was memory for the command.
-pub fn taken<'a>(
-    command: Result<Command<'a>, AllocError>,
+/// The same where the words begin with the command's name, and none where they do not.
+pub fn taken_as<'a>(
+    alloc: Global,
+    name: &'a str,
+    arguments: &[Argument<'a>],
     words: &'a [String],
 ) -> Result<Option<ArgMatches<'a>>, AllocError>
-    requires { IfOk command (λ c. is_simple_and_free (app_of c) ≡ true) }
-    ensures { (app : App) → IfOk command.entry (λ c. app_of c ≡ app)
-        → IfOk result (IsParsedAs app (map string_bytes words.entry.now)) }
+    requires { is_simple_and_free (app_with name.now arguments.now) ≡ true }
+    ensures { IfOk result (λ found. option_map found_rows found ≡ accepted_as name.entry.now (app_with name.entry.now arguments.entry.now) Some (texts words.entry.now)) }
 {
-    taken_by(command?, words)
+    if begins_with(name, words) {
+        taken(alloc, name, arguments, words)
+    } else {
+        Ok(None)
+    }
 }
 
 /// Whether the first of the words is this one.

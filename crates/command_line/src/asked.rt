@@ -1,14 +1,13 @@
 // The commands, and what words ask for.
-ghost use Rattle.std.specs.Prelude.{◌≡◌, ◌<◌, ◌≤◌, IfOk, IfSome, option_map};
+ghost use Rattle.std.specs.Prelude.{◌≡◌, ◌<◌, ◌≤◌, IfOk, IfSome, Some, option_map};
 ghost use Rattle.gp_base.specs.declared.limits.TheConstants.{MOST_WORKERS, MOST_SUBTHREADS, LEAST_MOVES, MOST_MOVES};
-ghost use Rattle.clap.specs.Words.{App, app_of, found_of, rows_of};
-ghost use Rattle.command_line.specs.meaning.Words.{texts, named_verb, named_crew, app_for, on_program, with_limits, with_crew, for_run, for_soak, asked_among, asked_by, asked_in, asked_of, asked_waiting, command_in, crew_in, soak_in, limits_in, program_in, faults_in, is_pipe, wants_pipe};
+ghost use Rattle.clap.specs.Words.{found_of, rows_of};
+ghost use Rattle.command_line.specs.meaning.Words.{accepted, texts, named_verb, named_crew, app_for, asked_among, asked_by, asked_in, asked_of, asked_waiting, command_in, crew_in, soak_in, limits_in, program_in, faults_in, is_pipe, wants_pipe};
+ghost use Rattle.command_line.specs.Arguments.{found_rows};
 ghost use Rattle.command_line.specs.Words.{IsWithinRanges, IsWithinLimits};
 
-use crate::arguments::{
-    found_number, found_text, is_given, option_number, taken, with_flag, with_option,
-    with_positional,
-};
+use crate::arguments::Argument::{self, Flag, Positional, Valued};
+use crate::arguments::{found_number, found_text, is_given, option_number, taken};
 use clap::ArgMatches;
 use gp_base::limits::{
     DEFAULT_SUBTHREADS, DEFAULT_TURNS, DEFAULT_WORKERS, LEAST_MOVES, MOST_MOVES, MOST_SUBTHREADS,
@@ -73,16 +72,12 @@ pub enum Verb {
 fn named_verb(word: &str) -> Option<Verb>
     ensures { result ≡ named_verb word.now }
 {
-    if word == "run" {
-        Some(Verb::Run)
-    } else if word == "one" {
-        Some(Verb::One)
-    } else if word == "check" {
-        Some(Verb::Check)
-    } else if word == "soak" {
-        Some(Verb::Soak)
-    } else {
-        None
+    match word {
+        "run" => Some(Verb::Run),
+        "one" => Some(Verb::One),
+        "check" => Some(Verb::Check),
+        "soak" => Some(Verb::Soak),
+        _ => None,
     }
 }
 
@@ -90,83 +85,51 @@ fn named_verb(word: &str) -> Option<Verb>
 fn named_crew(waits: bool, word: &str) -> Option<CrewKind>
     ensures { result ≡ named_crew waits word.now }
 {
-    if word == "one" {
-        Some(CrewKind::One)
-    } else if word == "wave" {
-        Some(CrewKind::Wave)
-    } else if word == "board" {
-        Some(CrewKind::Board)
-    } else if word == "steal" {
-        Some(CrewKind::Steal)
-    } else if waits && word == "pipe" {
-        Some(CrewKind::Pipe)
-    } else {
-        None
+    match word {
+        "one" => Some(CrewKind::One),
+        "wave" => Some(CrewKind::Wave),
+        "board" => Some(CrewKind::Board),
+        "steal" => Some(CrewKind::Steal),
+        "pipe" if waits => Some(CrewKind::Pipe),
+        _ => None,
     }
 }
 
-/// A command of this name that takes a program's name, and no other word.
-pub fn on_program<'a>(alloc: Global, name: &'a str) -> Result<clap::Command<'a>, AllocError>
-    ensures { IfOk result (λ parser. app_of parser ≡ on_program name.entry.now) }
-{
-    let start = clap::Command::new(alloc, name).disable_help_flag(true);
-    with_positional(alloc, Ok(start), "program")
-}
+// What each command takes.
+const RUN: [Argument<'static>; 7] = [
+    Positional("program"),
+    Valued("faults"),
+    Flag("trace"),
+    Valued("turns"),
+    Valued("subthreads"),
+    Valued("workers"),
+    Valued("crew"),
+];
 
-/// The command with the options of limits.
-pub fn with_limits<'a>(
+const ONE: [Argument<'static>; 3] = [Positional("program"), Valued("turns"), Valued("subthreads")];
+
+const CHECK: [Argument<'static>; 1] = [Positional("program")];
+
+const SOAK: [Argument<'static>; 4] = [
+    Positional("moves"),
+    Positional("start"),
+    Valued("workers"),
+    Valued("crew"),
+];
+
+// The matches of the words by a command, or none where it does not take them.
+fn taken_for<'a>(
     alloc: Global,
-    parser: Result<clap::Command<'a>, AllocError>,
-) -> Result<clap::Command<'a>, AllocError>
-    ensures { (app : App) → IfOk parser.entry (λ p. app_of p ≡ app)
-        → IfOk result (λ limited. app_of limited ≡ with_limits app) }
-{
-    let timed = with_option(alloc, parser, "turns");
-    with_option(alloc, timed, "subthreads")
-}
-
-/// The command with the options of a crew.
-pub fn with_crew<'a>(
-    alloc: Global,
-    parser: Result<clap::Command<'a>, AllocError>,
-) -> Result<clap::Command<'a>, AllocError>
-    ensures { (app : App) → IfOk parser.entry (λ p. app_of p ≡ app)
-        → IfOk result (λ manned. app_of manned ≡ with_crew app) }
-{
-    let shared = with_option(alloc, parser, "workers");
-    with_option(alloc, shared, "crew")
-}
-
-// What takes the words of `run`.
-fn for_run<'a>(alloc: Global) -> Result<clap::Command<'a>, AllocError>
-    ensures { IfOk result (λ parser. app_of parser ≡ for_run) }
-{
-    let program = on_program(alloc, "run");
-    let struck = with_option(alloc, program, "faults");
-    let traced = with_flag(alloc, struck, "trace");
-    let limited = with_limits(alloc, traced);
-    with_crew(alloc, limited)
-}
-
-// What takes the words of `soak`.
-fn for_soak<'a>(alloc: Global) -> Result<clap::Command<'a>, AllocError>
-    ensures { IfOk result (λ parser. app_of parser ≡ for_soak) }
-{
-    let parser = clap::Command::new(alloc, "soak").disable_help_flag(true);
-    let counted = with_positional(alloc, Ok(parser), "moves");
-    let drawn = with_positional(alloc, counted, "start");
-    with_crew(alloc, drawn)
-}
-
-// What takes the words of a command.
-fn parser_for<'a>(alloc: Global, verb: Verb) -> Result<clap::Command<'a>, AllocError>
-    ensures { IfOk result (λ parser. app_of parser ≡ app_for verb) }
+    verb: Verb,
+    words: &'a [String],
+) -> Result<Option<ArgMatches<'a>>, AllocError>
+    ensures { IfOk result (λ found. option_map found_rows found ≡ accepted (app_for verb) Some (texts words.entry.now)) }
 {
     match verb {
-        Verb::Run => for_run(alloc),
-        Verb::One => with_limits(alloc, on_program(alloc, "one")),
-        Verb::Check => on_program(alloc, "check"),
-        Verb::Soak => for_soak(alloc),
+        Verb::Run => taken(alloc, "run", &RUN, words),
+        Verb::One => taken(alloc, "one", &ONE, words),
+        Verb::Check => taken(alloc, "check", &CHECK, words),
+        Verb::Soak => taken(alloc, "soak", &SOAK, words),
     }
 }
 
@@ -309,7 +272,7 @@ pub fn asked_of(
     ensures asked { IfOk result (λ asked. asked ≡ asked_of waits verb (texts words.now)) }
     ensures within { IfOk result (λ asked. IfSome asked IsWithinLimits) }
 {
-    match taken(parser_for(alloc, verb), words)? {
+    match taken_for(alloc, verb, words)? {
         Some(matches) => asked_in(alloc, waits, verb, &matches),
         None => Ok(None),
     }

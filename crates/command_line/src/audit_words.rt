@@ -1,15 +1,25 @@
 // The words of `audit`: whose run is audited, and by which trace.
 ghost use Rattle.std.specs.Prelude.{◌≡◌, IfOk, IfSome};
-ghost use Rattle.clap.specs.Words.{app_of, found_of, rows_of};
+ghost use Rattle.clap.specs.Words.{found_of, rows_of};
 ghost use Rattle.command_line.specs.meaning.Words.{texts};
 ghost use Rattle.command_line.specs.Words.{IsWithinLimits};
-ghost use Rattle.command_line.specs.meaning.AuditWords.{for_audit, audited_in, audited_by};
+ghost use Rattle.command_line.specs.meaning.AuditWords.{audited_in, audited_by};
 
-use crate::arguments::{begins_with, found_text, taken, with_option, with_positional};
-use crate::asked::{Asked, Verb, asked_in, on_program, with_limits};
+use crate::arguments::Argument::{self, Positional, Valued};
+use crate::arguments::{found_text, taken_as};
+use crate::asked::{Asked, Verb, asked_in};
 use clap::ArgMatches;
 use gp_base::Name;
 use std::alloc::{AllocError, Global};
+
+// What `audit` takes.
+const ARGUMENTS: [Argument<'static>; 5] = [
+    Positional("program"),
+    Positional("trace_file"),
+    Valued("faults"),
+    Valued("turns"),
+    Valued("subthreads"),
+];
 
 /// What words ask to be audited: the run that is said to have been, as `run` asks for it by the default crew and
 /// untraced, and the file of its trace.
@@ -17,16 +27,6 @@ use std::alloc::{AllocError, Global};
 pub struct Audited {
     pub run: Asked,
     pub trace: Name,
-}
-
-// What takes the words of `audit`.
-fn for_audit<'a>(alloc: Global) -> Result<clap::Command<'a>, AllocError>
-    ensures { IfOk result (λ parser. app_of parser ≡ for_audit) }
-{
-    let program = on_program(alloc, "audit");
-    let traced = with_positional(alloc, program, "trace_file");
-    let struck = with_option(alloc, traced, "faults");
-    with_limits(alloc, struck)
 }
 
 // What the matches of the command ask for, or none where a value is not one of its option.
@@ -50,10 +50,7 @@ pub fn read_audit_words(alloc: Global, words: &[String]) -> Result<Option<Audite
     ensures audited { IfOk result (λ audited. audited ≡ audited_by (texts words.now)) }
     ensures within { IfOk result (λ audited. IfSome audited (λ a. IsWithinLimits a.run)) }
 {
-    if !begins_with("audit", words) {
-        return Ok(None);
-    }
-    match taken(for_audit(alloc), words)? {
+    match taken_as(alloc, "audit", &ARGUMENTS, words)? {
         Some(matches) => audited_in(alloc, &matches),
         None => Ok(None),
     }

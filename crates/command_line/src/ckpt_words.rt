@@ -1,15 +1,27 @@
 // The words of `ckpt`: a run by checkpoints.
 ghost use Rattle.std.specs.Prelude.{◌≡◌, ◌≤◌, IfOk, IfSome};
-ghost use Rattle.clap.specs.Words.{app_of, found_of, rows_of};
+ghost use Rattle.clap.specs.Words.{found_of, rows_of};
 ghost use Rattle.command_line.specs.meaning.Words.{texts};
 ghost use Rattle.command_line.specs.Words.{IsWithinLimits};
-ghost use Rattle.command_line.specs.meaning.CkptWords.{for_ckpt, every_in, ckpt_in, ckpt_by};
+ghost use Rattle.command_line.specs.meaning.CkptWords.{every_in, ckpt_in, ckpt_by};
 ghost use Rattle.command_line.specs.declared.ckpt_words.TheConstants.{LEAST_EVERY, MOST_EVERY};
 
-use crate::arguments::{begins_with, option_number, taken, with_option};
-use crate::asked::{Asked, Command, Verb, asked_in, on_program, with_crew, with_limits};
+use crate::arguments::Argument::{self, Positional, Valued};
+use crate::arguments::{option_number, taken_as};
+use crate::asked::{Asked, Command, Verb, asked_in};
 use clap::ArgMatches;
 use std::alloc::{AllocError, Global};
+
+// What `ckpt` takes.
+const ARGUMENTS: [Argument<'static>; 7] = [
+    Positional("program"),
+    Valued("every"),
+    Valued("faults"),
+    Valued("turns"),
+    Valued("subthreads"),
+    Valued("workers"),
+    Valued("crew"),
+];
 
 /// The subthreads from one checkpoint to the next, at least, at most, and where the words do not say.
 pub const LEAST_EVERY: u32 = 1;
@@ -17,17 +29,6 @@ pub const LEAST_EVERY: u32 = 1;
 pub const MOST_EVERY: u32 = 100000;
 
 pub const DEFAULT_EVERY: u32 = 64;
-
-// What takes the words of `ckpt`.
-fn for_ckpt<'a>(alloc: Global) -> Result<clap::Command<'a>, AllocError>
-    ensures { IfOk result (λ parser. app_of parser ≡ for_ckpt) }
-{
-    let program = on_program(alloc, "ckpt");
-    let cut = with_option(alloc, program, "every");
-    let struck = with_option(alloc, cut, "faults");
-    let limited = with_limits(alloc, struck);
-    with_crew(alloc, limited)
-}
 
 // After how many subthreads there is a checkpoint, or none where that is no number in its range.
 fn every_in(matches: &ArgMatches<'_>) -> Option<u32>
@@ -66,10 +67,7 @@ pub fn read_ckpt_words(alloc: Global, words: &[String]) -> Result<Option<Asked>,
     ensures asked { IfOk result (λ asked. asked ≡ ckpt_by (texts words.now)) }
     ensures within { IfOk result (λ asked. IfSome asked IsWithinLimits) }
 {
-    if !begins_with("ckpt", words) {
-        return Ok(None);
-    }
-    match taken(for_ckpt(alloc), words)? {
+    match taken_as(alloc, "ckpt", &ARGUMENTS, words)? {
         Some(matches) => ckpt_in(alloc, &matches),
         None => Ok(None),
     }

@@ -1,24 +1,25 @@
 // The words of `log`: a run that keeps a log of what retires.
 ghost use Rattle.std.specs.Prelude.{◌≡◌, IfOk, IfSome};
-ghost use Rattle.clap.specs.Words.{app_of, found_of, rows_of};
+ghost use Rattle.clap.specs.Words.{found_of, rows_of};
 ghost use Rattle.command_line.specs.meaning.Words.{texts};
 ghost use Rattle.command_line.specs.Words.{IsWithinLimits};
-ghost use Rattle.command_line.specs.meaning.LogWords.{for_log, steals, log_with, log_in, log_by};
+ghost use Rattle.command_line.specs.meaning.LogWords.{steals, log_with, log_in, log_by};
 
-use crate::arguments::{begins_with, taken, with_option};
-use crate::asked::{Asked, Command, CrewKind, Verb, asked_in, on_program, with_crew, with_limits};
+use crate::arguments::Argument::{self, Positional, Valued};
+use crate::arguments::taken_as;
+use crate::asked::{Asked, Command, CrewKind, Verb, asked_in};
 use clap::ArgMatches;
 use std::alloc::{AllocError, Global};
 
-// What takes the words of `log`.
-fn for_log<'a>(alloc: Global) -> Result<clap::Command<'a>, AllocError>
-    ensures { IfOk result (λ parser. app_of parser ≡ for_log) }
-{
-    let program = on_program(alloc, "log");
-    let struck = with_option(alloc, program, "faults");
-    let limited = with_limits(alloc, struck);
-    with_crew(alloc, limited)
-}
+// What `log` takes.
+const ARGUMENTS: [Argument<'static>; 6] = [
+    Positional("program"),
+    Valued("faults"),
+    Valued("turns"),
+    Valued("subthreads"),
+    Valued("workers"),
+    Valued("crew"),
+];
 
 // Whether the workers of the crew steal from one another.
 fn steals(crew: CrewKind) -> bool
@@ -62,10 +63,7 @@ pub fn read_log_words(alloc: Global, words: &[String]) -> Result<Option<Asked>, 
     ensures asked { IfOk result (λ asked. asked ≡ log_by (texts words.now)) }
     ensures within { IfOk result (λ asked. IfSome asked IsWithinLimits) }
 {
-    if !begins_with("log", words) {
-        return Ok(None);
-    }
-    match taken(for_log(alloc), words)? {
+    match taken_as(alloc, "log", &ARGUMENTS, words)? {
         Some(matches) => log_in(alloc, &matches),
         None => Ok(None),
     }

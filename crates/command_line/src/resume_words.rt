@@ -1,30 +1,30 @@
 // The words of `resume`: which run goes on, and from which log.
 ghost use Rattle.std.specs.Prelude.{◌≡◌, IfOk, IfSome};
-ghost use Rattle.clap.specs.Words.{app_of, found_of, rows_of};
+ghost use Rattle.clap.specs.Words.{found_of, rows_of};
 ghost use Rattle.command_line.specs.meaning.Words.{texts};
 ghost use Rattle.command_line.specs.Words.{IsWithinLimits};
-ghost use Rattle.command_line.specs.meaning.ResumeWords.{for_resume, resumed_in, resumed_by};
+ghost use Rattle.command_line.specs.meaning.ResumeWords.{resumed_in, resumed_by};
 
-use crate::arguments::{begins_with, found_text, taken, with_positional};
-use crate::asked::{Asked, Verb, asked_in, on_program, with_limits};
+use crate::arguments::Argument::{self, Positional, Valued};
+use crate::arguments::{found_text, taken_as};
+use crate::asked::{Asked, Verb, asked_in};
 use clap::ArgMatches;
 use gp_base::Name;
 use std::alloc::{AllocError, Global};
+
+// What `resume` takes.
+const ARGUMENTS: [Argument<'static>; 4] = [
+    Positional("program"),
+    Positional("log_file"),
+    Valued("turns"),
+    Valued("subthreads"),
+];
 
 /// What words ask to be gone on with: the run, as `one` asks for it, and the file of the log of what has retired in it.
 #[derive(Drop)]
 pub struct Resumed {
     pub run: Asked,
     pub log: Name,
-}
-
-// What takes the words of `resume`.
-fn for_resume<'a>(alloc: Global) -> Result<clap::Command<'a>, AllocError>
-    ensures { IfOk result (λ parser. app_of parser ≡ for_resume) }
-{
-    let program = on_program(alloc, "resume");
-    let logged = with_positional(alloc, program, "log_file");
-    with_limits(alloc, logged)
 }
 
 // What the matches of the command ask for, or none where a value is not one of its option.
@@ -49,10 +49,7 @@ pub fn read_resume_words(alloc: Global, words: &[String]) -> Result<Option<Resum
     ensures resumed { IfOk result (λ resumed. resumed ≡ resumed_by (texts words.now)) }
     ensures within { IfOk result (λ resumed. IfSome resumed (λ r. IsWithinLimits r.run)) }
 {
-    if !begins_with("resume", words) {
-        return Ok(None);
-    }
-    match taken(for_resume(alloc), words)? {
+    match taken_as(alloc, "resume", &ARGUMENTS, words)? {
         Some(matches) => resumed_in(alloc, &matches),
         None => Ok(None),
     }

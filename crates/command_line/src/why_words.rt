@@ -1,14 +1,24 @@
 // The words of `why`: which position of which run.
 ghost use Rattle.std.specs.Prelude.{◌≡◌, IfOk, IfSome};
-ghost use Rattle.clap.specs.Words.{app_of, found_of, rows_of};
+ghost use Rattle.clap.specs.Words.{found_of, rows_of};
 ghost use Rattle.command_line.specs.meaning.Words.{texts};
 ghost use Rattle.command_line.specs.Words.{IsWithinLimits};
-ghost use Rattle.command_line.specs.meaning.WhyWords.{for_why, position_in, sought_in, sought_by};
+ghost use Rattle.command_line.specs.meaning.WhyWords.{position_in, sought_in, sought_by};
 
-use crate::arguments::{begins_with, found_number, taken, with_option, with_positional};
-use crate::asked::{Asked, Verb, asked_in, on_program, with_limits};
+use crate::arguments::Argument::{self, Positional, Valued};
+use crate::arguments::{found_number, taken_as};
+use crate::asked::{Asked, Verb, asked_in};
 use clap::ArgMatches;
 use std::alloc::{AllocError, Global};
+
+// What `why` takes.
+const ARGUMENTS: [Argument<'static>; 5] = [
+    Positional("program"),
+    Positional("position"),
+    Valued("faults"),
+    Valued("turns"),
+    Valued("subthreads"),
+];
 
 /// What words ask to be told why: a position of a run, which is asked for as `run` asks for it by the default crew and
 /// untraced.
@@ -16,16 +26,6 @@ use std::alloc::{AllocError, Global};
 pub struct Sought {
     pub run: Asked,
     pub position: u64,
-}
-
-// What takes the words of `why`.
-fn for_why<'a>(alloc: Global) -> Result<clap::Command<'a>, AllocError>
-    ensures { IfOk result (λ parser. app_of parser ≡ for_why) }
-{
-    let program = on_program(alloc, "why");
-    let placed = with_positional(alloc, program, "position");
-    let struck = with_option(alloc, placed, "faults");
-    with_limits(alloc, struck)
 }
 
 // The position, or none where its word is no number.
@@ -55,10 +55,7 @@ pub fn read_why_words(alloc: Global, words: &[String]) -> Result<Option<Sought>,
     ensures sought { IfOk result (λ sought. sought ≡ sought_by (texts words.now)) }
     ensures within { IfOk result (λ sought. IfSome sought (λ s. IsWithinLimits s.run)) }
 {
-    if !begins_with("why", words) {
-        return Ok(None);
-    }
-    match taken(for_why(alloc), words)? {
+    match taken_as(alloc, "why", &ARGUMENTS, words)? {
         Some(matches) => sought_in(alloc, &matches),
         None => Ok(None),
     }

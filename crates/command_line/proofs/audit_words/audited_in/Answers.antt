@@ -1,4 +1,4 @@
-use Rattle.std.proofs.Common.{◌≡◌, ◌∙◌, ap, sym, false, Bor, List, ℕ, Option, Some, None}
+use Rattle.std.proofs.Common.{◌∙◌, ap, sym, false, Bor, List, ℕ}
 use Rattle.std.specs.Prelude.{option_map}
 use Rattle.clap.specs.Words.{found_of, rows_of}
 use Rattle.command_line.specs.meaning.Words.{asked_in, both}

@@ -1,32 +1,18 @@
-use Rattle.std.proofs.Common.{◌≡◌, ◌∙◌, ap, refl, true, Some, None}
-use Rattle.std.specs.Prelude.{codes}
-use Rattle.std.proofs.lemmas.Result.{IfOk-weaker}
-use Rattle.clap.specs.Words.{is_simple_and_free}
+use Rattle.std.proofs.Common.{refl, Some, None}
+use Rattle.std.specs.Prelude.{Ok, codes}
 use Rattle.command_line.specs.meaning.Words.{texts}
 use Rattle.command_line.specs.meaning.CkptWords.{for_ckpt, ckpt_in}
-use Rattle.command_line.proofs.AskedFacts.{parsed_by, named_taken, named_refused}
+use Rattle.command_line.proofs.AskedFacts.{read_named}
 use Rattle.command_line.proofs.ckpt_words.read_ckpt_words.Goals as goal
 
--- the parse of the command is known exactly
-simple_ckpt : is_simple_and_free for_ckpt ≡ true
-unfolding for_ckpt
-simple_ckpt = refl
-
-pub taken-requires : goal.taken-requires
-taken-requires c = IfOk-weaker c.for_ckpt.result _ _ (λ parser is. ap is_simple_and_free is ∙ simple_ckpt) c.for_ckpt.ensures
-
 pub returns-in-Some-clause-asked : goal.returns-in-Some-clause-asked
+unfolding for_ckpt
 returns-in-Some-clause-asked c =
-    let words = texts c.args.words.now in
-    let parsed =
-    parsed_by for_ckpt words (Some c.in-Some.matches) c.in_ok-matches.field-0 c.in-Some.is
-    (c.in_ok-matches.ensures for_ckpt c.for_ckpt.ensures) in
-    IfOk-weaker c.ckpt_in.result _ _ (λ asked is. is
-    ∙ named_taken ckpt_in for_ckpt words (codes "ckpt") c.begins_with.result c.begins_with.ensures
-    c.if-not-begins_with.false c.in-Some.matches parsed) c.ckpt_in.ensures.asked
+    read_named ckpt_in for_ckpt (texts c.args.words.now) (Some c.in-Some.matches) c.in_ok-matches.field-0 c.in-Some.is c.ckpt_in.result
+    c.ckpt_in.ensures.asked (codes "ckpt") c.in_ok-matches.ensures
 
 pub returns-in-None-clause-asked : goal.returns-in-None-clause-asked
+unfolding for_ckpt
 returns-in-None-clause-asked c =
-    let words = texts c.args.words.now in
-    named_refused ckpt_in for_ckpt words (codes "ckpt") c.begins_with.result c.begins_with.ensures c.if-not-begins_with.false
-    (parsed_by for_ckpt words None c.in_ok-matches.field-0 c.in-None.is (c.in_ok-matches.ensures for_ckpt c.for_ckpt.ensures))
+    read_named ckpt_in for_ckpt (texts c.args.words.now) None c.in_ok-matches.field-0 c.in-None.is (Ok None) refl (codes "ckpt")
+    c.in_ok-matches.ensures

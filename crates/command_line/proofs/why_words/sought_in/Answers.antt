@@ -1,4 +1,4 @@
-use Rattle.std.proofs.Common.{◌≡◌, ◌∙◌, ap, sym, false, ℕ, Option, Some, None}
+use Rattle.std.proofs.Common.{◌∙◌, ap, sym, false, ℕ}
 use Rattle.clap.specs.Words.{found_of, rows_of}
 use Rattle.command_line.specs.meaning.Words.{asked_in, both}
 use Rattle.command_line.specs.declared.asked.Asked.{Asked}

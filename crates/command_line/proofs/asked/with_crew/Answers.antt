@@ -1,7 +1,0 @@
-use Rattle.std.specs.Prelude.{codes}
-use Rattle.clap.specs.Words.{with_rule}
-use Rattle.command_line.specs.meaning.Arguments.{option_of}
-use Rattle.command_line.proofs.asked.with_crew.Goals as goal
-
-pub returns : goal.returns
-returns c app is = c.with_option.ensures (with_rule app (option_of (codes "workers"))) (c.with_option-shared.ensures app is)
