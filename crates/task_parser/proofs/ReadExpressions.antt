@@ -9,13 +9,13 @@ use Rattle.task_parser.specs.inner.Classes.{among}
 use Rattle.task_parser.specs.meaning.Words.{Form, ◌▸◌, ◌∣◌, Made, many, perhaps, Opened, the, ◌◂◌, preceded, first_of}
 use Rattle.task_parser.specs.inner.Reading.{Reader, read_opened, read_the}
 use Rattle.task_parser.specs.inner.Laws.{Inhabited}
-use Rattle.task_parser.specs.meaning.Expressions.{Text, name, number, operator, comparison, chain_of, compared_of, named_of, level, sum, compared, disjunction, place_in, operand, unary, expression}
-use Rattle.task_parser.specs.inner.ExpressionReaders.{starting, comparisons, read_number, read_member, read_level, read_product, read_sum, read_compared, read_conjunction, read_disjunction, read_pair, read_place, read_named, read_rows, read_group, read_operand, read_unary, read_expression}
+use Rattle.task_parser.specs.meaning.Expressions.{Text, name, register, number, operator, comparison, chain_of, compared_of, named_of, level, sum, compared, disjunction, place_in, operand, unary, expression}
+use Rattle.task_parser.specs.inner.ExpressionReaders.{starting, comparisons, read_number, read_member, read_level, read_product, read_sum, read_compared, read_conjunction, read_disjunction, read_pair, read_place, read_named, read_rows, read_group, read_negation, read_leaf, read_operand, read_unary, read_expression}
 use Rattle.task_parser.proofs.Exact.{inhabited_made, inhabited_both}
 use Rattle.task_parser.proofs.Many.{inhabited_many}
 use Rattle.task_parser.proofs.Perhaps.{inhabited_perhaps}
 use Rattle.task_parser.proofs.ClassLists.{disjoint, subset, IsOf}
-use Rattle.task_parser.proofs.Forms.{Reads, Inside, Deeper, Operators, operator_alone, operator_or, inside_with, reads_the, reads_name, reads_register, reads_number, reads_made, reads_both, reads_more, reads_many, reads_perhaps, reads_mark, reads_after, reads_operators, reads_either, reads_opened, reads_wider, reads_shut}
+use Rattle.task_parser.proofs.Forms.{Reads, Inside, Deeper, Implies, Operators, operator_alone, operator_or, inside_with, reads_the, reads_name, reads_register, reads_number, reads_made, reads_both, reads_more, reads_many, reads_perhaps, reads_mark, reads_after, reads_operators, reads_either, reads_as, reads_opened, reads_wider, reads_shut}
 
 -- what an operand goes on with, and an expression
 abbrev going : List ℕ
@@ -159,18 +159,57 @@ unfolding read_rows
 reads_rows text =
     reads_made Rows (reads_after "rows" ROWS refl refl (reads_after "(" OPEN_PAREN refl refl (reads_mark ")" CLOSE_PAREN refl refl (reads_name text))))
 
+abbrev leaf : Text → Form Expr
+leaf text = Made Num number ∣ Made Reg (register text) ∣ Made (λ token. Me) (the "self") ∣ rows text
+
+reads_leaf : {room : ℕ} (text : Text)
+    → Reads room (leaf text) (leaf text) (read_leaf text) (NUM ∷ REG ∷ SELF ∷ ROWS ∷ []) []
+unfolding read_leaf
+reads_leaf text =
+    reads_either (NUM ∷ REG ∷ SELF ∷ ROWS ∷ []) (reads_made Num reads_number)
+    (reads_either (REG ∷ SELF ∷ ROWS ∷ []) (reads_made Reg (reads_register text))
+    (reads_either (SELF ∷ ROWS ∷ []) (reads_made (λ t. Me) (reads_the "self" SELF refl)) (reads_rows text) refl refl refl)
+    refl refl refl) refl refl refl
+
+-- the reader asks for the operands that nest first
+abbrev nesting_first : Text → Form Expr → Form Expr
+nesting_first text unary =
+    Made Neg (Opened "-" unary)
+    ∣ Made Not (Opened "not" unary)
+    ∣ Made named_of (name text ▸ perhaps (place_in (disjunction unary)))
+    ∣ (Opened "(" (disjunction unary) ◂ ")")
+    ∣ leaf text
+
+as_operand : (text : Text) (T : Form Expr) → Implies (nesting_first text T) (operand text T)
+as_operand text T depth used value (inl h) = inl h
+as_operand text T depth used value (inr (inl h)) = inr (inl h)
+as_operand text T depth used value (inr (inr (inl h))) = inr (inr (inr (inl h)))
+as_operand text T depth used value (inr (inr (inr (inl h)))) = inr (inr (inr (inr (inr (inr (inr h))))))
+as_operand text T depth used value (inr (inr (inr (inr (inl h))))) = inr (inr (inl h))
+as_operand text T depth used value (inr (inr (inr (inr (inr (inl h)))))) = inr (inr (inr (inr (inl h))))
+as_operand text T depth used value (inr (inr (inr (inr (inr (inr (inl h))))))) = inr (inr (inr (inr (inr (inl h)))))
+as_operand text T depth used value (inr (inr (inr (inr (inr (inr (inr h))))))) = inr (inr (inr (inr (inr (inr (inl h))))))
+
+of_operand : (text : Text) (T : Form Expr) → Implies (operand text T) (nesting_first text T)
+of_operand text T depth used value (inl h) = inl h
+of_operand text T depth used value (inr (inl h)) = inr (inl h)
+of_operand text T depth used value (inr (inr (inl h))) = inr (inr (inr (inr (inl h))))
+of_operand text T depth used value (inr (inr (inr (inl h)))) = inr (inr (inl h))
+of_operand text T depth used value (inr (inr (inr (inr (inl h))))) = inr (inr (inr (inr (inr (inl h)))))
+of_operand text T depth used value (inr (inr (inr (inr (inr (inl h)))))) = inr (inr (inr (inr (inr (inr (inl h))))))
+of_operand text T depth used value (inr (inr (inr (inr (inr (inr (inl h))))))) = inr (inr (inr (inr (inr (inr (inr h))))))
+of_operand text T depth used value (inr (inr (inr (inr (inr (inr (inr h))))))) = inr (inr (inr (inl h)))
+
 reads_operand : (room : ℕ) (T P : Form Expr) (text : Text) (inner : Option (Reader Expr)) → Lower room T P inner
     → Operands room (operand text T) (operand text P) (read_operand text inner)
-unfolding read_operand
+unfolding read_operand read_negation
 reads_operand room T P text inner h =
-    reads_either starting (reads_made Neg (reads_inner "-" SUB refl room T P inner h))
+    reads_as (as_operand text T) (of_operand text T) (of_operand text P)
+    (reads_either starting (reads_made Neg (reads_inner "-" SUB refl room T P inner h))
     (reads_either (NOT ∷ NUM ∷ NAME ∷ REG ∷ SELF ∷ ROWS ∷ OPEN_PAREN ∷ []) (reads_made Not (reads_inner "not" NOT refl room T P inner h))
-    (reads_either (NUM ∷ NAME ∷ REG ∷ SELF ∷ ROWS ∷ OPEN_PAREN ∷ []) (wide (reads_made Num reads_number))
-    (reads_either (NAME ∷ REG ∷ SELF ∷ ROWS ∷ OPEN_PAREN ∷ []) (reads_named room T P text inner h)
-    (reads_either (REG ∷ SELF ∷ ROWS ∷ OPEN_PAREN ∷ []) (wide (reads_made Reg (reads_register text)))
-    (reads_either (SELF ∷ ROWS ∷ OPEN_PAREN ∷ []) (wide (reads_made (λ t. Me) (reads_the "self" SELF refl)))
-    (reads_either (ROWS ∷ OPEN_PAREN ∷ []) (wide (reads_rows text)) (wide (reads_group room T P inner h)) refl refl refl) refl refl refl)
-    refl refl refl) refl refl refl) refl refl refl) refl refl refl) refl refl refl
+    (reads_either (NUM ∷ NAME ∷ REG ∷ SELF ∷ ROWS ∷ OPEN_PAREN ∷ []) (reads_named room T P text inner h)
+    (reads_either (NUM ∷ REG ∷ SELF ∷ ROWS ∷ OPEN_PAREN ∷ []) (wide (reads_group room T P inner h)) (wide (reads_leaf text))
+    refl refl refl) refl refl refl) refl refl refl) refl refl refl)
   where
     wide : {room : ℕ} {U Q : Form Expr} {q : Reader Expr} {first : List ℕ} → Reads room U Q q first [] → Reads room U Q q first going
     wide k = reads_wider going refl k

@@ -12,7 +12,7 @@ use Rattle.task_parser.specs.meaning.Expressions.{Text, name, number}
 use Rattle.task_parser.specs.meaning.Statements.{listed_in}
 use Rattle.task_parser.specs.inner.StatementReaders.{or_empty, statement_starts, read_list}
 use Rattle.task_parser.specs.meaning.Programs.{lock_head_of, barrier_head_of, record_head_of, feed_head_of, file_of, var_line_of, task_of, program_from, file, head, param, var_line, task, program}
-use Rattle.task_parser.specs.inner.ProgramReaders.{read_file, read_sized, read_lock_head, read_barrier_head, read_from_file, read_record_head, read_feed_head, head_starts, param_starts, read_head, read_param, read_var_line, read_task, read_program}
+use Rattle.task_parser.specs.inner.ProgramReaders.{read_file, read_sized, read_lock_head, read_barrier_head, read_from_file, read_record_head, read_feed_head, head_starts, param_starts, read_head, read_param, read_var_line, read_task_head, read_task, read_program}
 use Rattle.task_parser.proofs.Exact.{sound_both, complete_both, sound_made, complete_made, parted_starts}
 use Rattle.task_parser.proofs.ClassLists.{apart, IsOf}
 use Rattle.task_parser.proofs.Forms.{Reads, MayRead, reads_the, reads_kind, reads_name, reads_register, reads_number, reads_made, may_read_made, reads_both, reads_more, reads_many, reads_perhaps, reads_mark, reads_after, reads_some, reads_separated, reads_either}
@@ -23,23 +23,28 @@ use Rattle.task_parser.proofs.ReadStatements.{Plain, reads_titled, reads_stateme
 reads_file : {room : ℕ} (text : Text) → Plain room (file text) (read_file text) (QUOTED ∷ [])
 reads_file text = reads_made (file_of text) (reads_kind QUOTED refl)
 
-reads_sized : {room : ℕ} (text : Text) (word : String) (n : ℕ) → IsOf word n
-    → Plain room (the word ▸ name text ◂ "[" ▸ number ◂ "]") (read_sized text n) (n ∷ [])
+reads_sized : {room : ℕ} (text : Text) (word : String) (n : ℕ) → IsOf word n → (opener : String) (o : ℕ) → IsOf opener o
+    → (closer : String) (c : ℕ) → IsOf closer c → (after : String) (m : ℕ) → IsOf after m
+    → Plain room (the word ▸ name text ◂ opener ▸ number ◂ closer ◂ after) (read_sized text n o c m) (n ∷ [])
 unfolding read_sized
-reads_sized text word n is =
-    reads_mark "]" CLOSE_BRACKET refl refl (reads_both (reads_titled text word n is "[" OPEN_BRACKET refl) reads_number refl)
+reads_sized text word n is opener o opens closer c closes after m so =
+    reads_mark after m so refl (reads_mark closer c closes refl (reads_both (reads_titled text word n is opener o opens) reads_number refl))
+
+-- in brackets
+reads_bracketed : {room : ℕ} (text : Text) (word : String) (n : ℕ) → IsOf word n → (after : String) (m : ℕ) → IsOf after m
+    → Plain room (the word ▸ name text ◂ "[" ▸ number ◂ "]" ◂ after) (read_sized text n OPEN_BRACKET CLOSE_BRACKET m) (n ∷ [])
+reads_bracketed text word n is after m so = reads_sized text word n is "[" OPEN_BRACKET refl "]" CLOSE_BRACKET refl after m so
 
 reads_lock_head : {room : ℕ} (text : Text)
     → Plain room (Made lock_head_of (the "lock" ▸ name text ◂ "[" ▸ number ◂ "]" ◂ ";")) (read_lock_head text) (LOCK ∷ [])
 unfolding read_lock_head
-reads_lock_head text = reads_made lock_head_of (reads_mark ";" SEMICOLON refl refl (reads_sized text "lock" LOCK refl))
+reads_lock_head text = reads_made lock_head_of (reads_bracketed text "lock" LOCK refl ";" SEMICOLON refl)
 
 reads_barrier_head : {room : ℕ} (text : Text)
     → Plain room (Made barrier_head_of (the "barrier" ▸ name text ◂ "(" ▸ number ◂ ")" ◂ ";")) (read_barrier_head text) (BARRIER ∷ [])
 unfolding read_barrier_head
 reads_barrier_head text =
-    reads_made barrier_head_of (reads_mark ";" SEMICOLON refl refl (reads_mark ")" CLOSE_PAREN refl refl
-    (reads_both (reads_titled text "barrier" BARRIER refl "(" OPEN_PAREN refl) reads_number refl)))
+    reads_made barrier_head_of (reads_sized text "barrier" BARRIER refl "(" OPEN_PAREN refl ")" CLOSE_PAREN refl ";" SEMICOLON refl)
 
 reads_from_file : {room : ℕ} (text : Text)
     → MayRead room (perhaps (preceded "from" (file text))) (perhaps (preceded "from" (file text))) (read_from_file text) (FROM ∷ []) []
@@ -53,7 +58,7 @@ reads_record_head : {room : ℕ} (text : Text)
 unfolding read_record_head
 reads_record_head text =
     reads_made record_head_of (reads_mark ";" SEMICOLON refl refl
-    (reads_more (FROM ∷ []) (reads_both (reads_mark "by" BY refl refl (reads_sized text "record" RECORD refl)) (reads_name text) refl)
+    (reads_more (FROM ∷ []) (reads_both (reads_bracketed text "record" RECORD refl "by" BY refl) (reads_name text) refl)
     (reads_from_file text) refl refl refl refl))
 
 reads_feed_head : {room : ℕ} (text : Text)
@@ -61,7 +66,7 @@ reads_feed_head : {room : ℕ} (text : Text)
 unfolding read_feed_head
 reads_feed_head text =
     reads_made feed_head_of (reads_mark ";" SEMICOLON refl refl
-    (reads_both (reads_mark "from" FROM refl refl (reads_sized text "feed" FEED refl)) (reads_file text) refl))
+    (reads_both (reads_bracketed text "feed" FEED refl "from" FROM refl) (reads_file text) refl))
 
 pub reads_head : {room : ℕ} (text : Text) → Plain room (head text) (read_head text) head_starts
 unfolding read_head
@@ -89,15 +94,19 @@ pub reads_var_line : {room : ℕ} (text : Text) → Plain room (var_line text) (
 unfolding read_var_line
 reads_var_line text = reads_made var_line_of (reads_mark ";" SEMICOLON refl refl (reads_both (reads_the "var" VAR refl) (reads_params text) refl))
 
+reads_task_head : {room : ℕ} (text : Text)
+    → Plain room (the "task" ▸ name text ◂ "(" ▸ listed_in (param text) ◂ ")" ◂ "{") (read_task_head text) (TASK ∷ [])
+unfolding read_task_head
+reads_task_head text =
+    let named = reads_titled text "task" TASK refl "(" OPEN_PAREN refl in
+    reads_mark "{" OPEN_BRACE refl refl (reads_mark ")" CLOSE_PAREN refl refl
+    (reads_more (NAME ∷ REG ∷ COMMA ∷ []) named (reads_list text) refl refl refl refl))
+
 pub reads_task : (text : Text) (room height : ℕ)
     → Reads room (task text (suc (suc room))) (task text height) (read_task text room) (TASK ∷ []) []
 unfolding read_task
 reads_task text room height =
-    let named = reads_titled text "task" TASK refl "(" OPEN_PAREN refl in
-    let headed =
-    reads_mark "{" OPEN_BRACE refl refl (reads_mark ")" CLOSE_PAREN refl refl
-    (reads_more (NAME ∷ REG ∷ COMMA ∷ []) named (reads_list text) refl refl refl refl)) in
-    let declared = reads_more (VAR ∷ []) headed (reads_many (reads_var_line text) refl) refl refl refl refl in
+    let declared = reads_more (VAR ∷ []) (reads_task_head text) (reads_many (reads_var_line text) refl) refl refl refl refl in
     reads_made task_of (reads_mark "}" CLOSE_BRACE refl refl
     (reads_more (VAR ∷ ELSE ∷ statement_starts) declared
     (may_read_made block (reads_many (reads_statement text room height) refl)) refl refl refl refl))

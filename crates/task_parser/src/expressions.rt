@@ -1,17 +1,19 @@
 // Expressions from tokens, by recursive descent.
-ghost use Rattle.std.specs.Prelude.{◌≡◌};
+ghost use Rattle.std.specs.Prelude.{◌≡◌, [], ◌∷◌, Ok};
+ghost use Rattle.task_ast.specs.meaning.Tree.{Cell};
 ghost use Rattle.task_ast.specs.View.{plain_expr, plain_members};
 ghost use Rattle.task_parser.specs.inner.Classes.{among, is, op_of};
-ghost use Rattle.task_parser.specs.inner.Reading.{begins, read_one, repeat, read_opened};
-ghost use Rattle.task_parser.specs.inner.ExpressionReaders.{read_member, read_level, read_compared, read_pair, read_place, read_named, read_rows, read_group, read_unary, below, read_expression};
+ghost use Rattle.task_parser.specs.inner.Reading.{begins, read_one, repeat, ◌◃◌};
+ghost use Rattle.task_parser.specs.inner.ExpressionReaders.{read_member, read_level, read_compared, negation, read_negation, read_place, read_named, read_rows, read_group, read_leaf, read_unary, below, read_expression};
+ghost use Rattle.task_parser.specs.meaning.Expressions.{chain_of};
 ghost use Rattle.task_parser.specs.inner.Gives.{Gives, operators, read_part};
 
 use crate::classes::*;
 use crate::halt::{Halt, Read, discard};
-use crate::next::{expect, is_next, is_of};
+use crate::next::{expect, expect_name, expect_register, is_next, is_of};
 use crate::source::{Source, number};
 use crate::token::Token;
-use gp_base::Seq;
+use gp_base::{Name, Seq};
 use task_ast::{Expr, Op};
 
 /// Operators that bind alike, from the loosest. Comparisons don't chain.
@@ -100,21 +102,46 @@ fn operator_at(level: Level, tokens: &[Token]) -> Read<'_, Token>
     Ok((*token, rest))
 }
 
-// An operand after an opener of the class, a `-` or a `not`.
-#[cycle(descent)]
-fn operand_after<'a>(
-    source: Source<'_>,
-    class: u32,
-    room: u32,
-    tokens: &'a [Token],
-) -> Read<'a, Expr>
-    ensures { Gives (λ x. (plain_expr x.0, x.1.now)) result (read_opened (is class) (below source.entry.text.now room) tokens.now) }
+// The negation of a value, by the class of its sign: a `-`, or else a `not`.
+#[tactic(auto, using(task_ast::proofs::Views::view))]
+fn negation(sign: u32, value: Box<Expr>) -> Expr
+    ensures { plain_expr result ≡ negation sign (plain_expr value.value) }
 {
-    let (_, rest) = expect(tokens, class)?;
+    if sign == SUB {
+        Expr::Neg(value)
+    } else {
+        Expr::Not(value)
+    }
+}
+
+// A `-` or a `not`, by its class, and the operand after it.
+#[tactic(auto, unfolding(crate::specs::inner::ExpressionReaders::read_negation))]
+#[cycle(descent)]
+fn negated<'a>(source: Source<'_>, sign: u32, room: u32, tokens: &'a [Token]) -> Read<'a, Expr>
+    ensures { Gives (λ x. (plain_expr x.0, x.1.now)) result (read_negation sign (below source.entry.text.now room) tokens.now) }
+{
+    let (_, rest) = expect(tokens, sign)?;
     if room == 0 {
         return Err(Halt::TooDeep(tokens));
     }
-    operand(source, room - 1, rest)
+    let (value, rest) = operand(source, room - 1, rest)?;
+    let value = Box::new(source.alloc, value)?;
+    Ok((negation(sign, value), rest))
+}
+
+// An expression, and the mark after it.
+#[cycle(descent)]
+fn closed<'a>(source: Source<'_>, mark: u32, room: u32, tokens: &'a [Token]) -> Read<'a, Expr>
+    ensures { Gives (λ x. (plain_expr x.0, x.1.now)) result ((read_expression source.entry.text.now room ◃ mark) tokens.now) }
+{
+    let (value, rest) = chain(source, Level::Or, room, tokens)?;
+    match expect(rest, mark) {
+        Ok((_, rest)) => Ok((value, rest)),
+        Err(halt) => {
+            discard(value);
+            Err(halt)
+        }
+    }
 }
 
 // An expression in parentheses.
@@ -127,15 +154,7 @@ fn group<'a>(source: Source<'_>, room: u32, tokens: &'a [Token]) -> Read<'a, Exp
     if room == 0 {
         return Err(Halt::TooDeep(tokens));
     }
-    let (value, rest) = chain(source, Level::Or, room - 1, rest)?;
-    let (_, rest) = match expect(rest, CLOSE_PAREN) {
-        Ok(next) => next,
-        Err(halt) => {
-            discard(value);
-            return Err(halt);
-        }
-    };
-    Ok((value, rest))
+    closed(source, CLOSE_PAREN, room - 1, rest)
 }
 
 // A row and a field in brackets.
@@ -148,14 +167,7 @@ fn place<'a>(source: Source<'_>, room: u32, tokens: &'a [Token]) -> Read<'a, (Ex
     if room == 0 {
         return Err(Halt::TooDeep(tokens));
     }
-    let (row, rest) = chain(source, Level::Or, room - 1, rest)?;
-    let (_, rest) = match expect(rest, COMMA) {
-        Ok(next) => next,
-        Err(halt) => {
-            discard(row);
-            return Err(halt);
-        }
-    };
+    let (row, rest) = closed(source, COMMA, room - 1, rest)?;
     let (field, rest) = match chain(source, Level::Or, room - 1, rest) {
         Ok(next) => next,
         Err(halt) => {
@@ -173,18 +185,11 @@ fn place<'a>(source: Source<'_>, room: u32, tokens: &'a [Token]) -> Read<'a, (Ex
     Ok(((row, field), rest))
 }
 
-// A control variable or a cell of a feed.
-#[tactic(auto, using(task_ast::proofs::Views::view), unfolding(crate::specs::inner::ExpressionReaders::read_named))]
-#[cycle(descent)]
-fn named<'a>(source: Source<'_>, room: u32, tokens: &'a [Token]) -> Read<'a, Expr>
-    ensures { Gives (λ x. (plain_expr x.0, x.1.now)) result (read_named source.entry.text.now (below source.entry.text.now room) tokens.now) }
+// A cell of a feed.
+#[tactic(auto, using(task_ast::proofs::Views::view))]
+fn cell<'a>(source: Source<'_>, feed: Name, row: Expr, field: Expr) -> Result<Expr, Halt<'a>>
+    ensures { Gives plain_expr result (Ok (Cell feed (plain_expr row) (plain_expr field))) }
 {
-    let (token, rest) = expect(tokens, NAME)?;
-    let feed = source.name(token)?;
-    if !is_next(rest, OPEN_BRACKET) {
-        return Ok((Expr::Ctl(feed), rest));
-    }
-    let ((row, field), rest) = place(source, room, rest)?;
     let row = match Box::new(source.alloc, row) {
         Ok(row) => row,
         Err(failed) => {
@@ -193,7 +198,21 @@ fn named<'a>(source: Source<'_>, room: u32, tokens: &'a [Token]) -> Read<'a, Exp
         }
     };
     let field = Box::new(source.alloc, field)?;
-    Ok((Expr::Cell(feed, row, field), rest))
+    Ok(Expr::Cell(feed, row, field))
+}
+
+// A control variable or a cell of a feed.
+#[tactic(auto, using(task_ast::proofs::Views::view), unfolding(crate::specs::inner::ExpressionReaders::read_named))]
+#[cycle(descent)]
+fn named<'a>(source: Source<'_>, room: u32, tokens: &'a [Token]) -> Read<'a, Expr>
+    ensures { Gives (λ x. (plain_expr x.0, x.1.now)) result (read_named source.entry.text.now (below source.entry.text.now room) tokens.now) }
+{
+    let (name, rest) = expect_name(source, tokens)?;
+    if !is_next(rest, OPEN_BRACKET) {
+        return Ok((Expr::Ctl(name), rest));
+    }
+    let ((row, field), rest) = place(source, room, rest)?;
+    Ok((cell(source, name, row, field)?, rest))
 }
 
 // The number of rows of a feed.
@@ -208,33 +227,41 @@ fn rows<'a>(source: Source<'_>, tokens: &'a [Token]) -> Read<'a, Expr>
     Ok((Expr::Rows(source.name(token)?), rest))
 }
 
+// A number, a data variable, `self`, or the number of rows of a feed.
+#[tactic(auto, using(task_ast::proofs::Views::view), unfolding(crate::specs::inner::ExpressionReaders::read_leaf))]
+fn leaf<'a>(source: Source<'_>, tokens: &'a [Token]) -> Read<'a, Expr>
+    ensures { Gives (λ x. (plain_expr x.0, x.1.now)) result (read_leaf source.entry.text.now tokens.now) }
+{
+    if is_next(tokens, NUM) {
+        let (token, rest) = expect(tokens, NUM)?;
+        Ok((Expr::Num(number(token)), rest))
+    } else if is_next(tokens, REG) {
+        let (register, rest) = expect_register(source, tokens)?;
+        Ok((Expr::Reg(register), rest))
+    } else if is_next(tokens, SELF) {
+        let (_, rest) = expect(tokens, SELF)?;
+        Ok((Expr::Me, rest))
+    } else {
+        rows(source, tokens)
+    }
+}
+
 // An operand.
-#[tactic(auto, using(task_ast::proofs::Views::view), unfolding(crate::specs::inner::ExpressionReaders::read_unary, crate::specs::inner::ExpressionReaders::read_operand))]
+#[tactic(auto, unfolding(crate::specs::inner::ExpressionReaders::read_unary, crate::specs::inner::ExpressionReaders::read_operand))]
 #[cycle(descent)]
 fn operand<'a>(source: Source<'_>, room: u32, tokens: &'a [Token]) -> Read<'a, Expr>
     ensures { Gives (λ x. (plain_expr x.0, x.1.now)) result (read_unary source.entry.text.now room tokens.now) }
 {
     if is_next(tokens, SUB) {
-        let (value, rest) = operand_after(source, SUB, room, tokens)?;
-        Ok((Expr::Neg(Box::new(source.alloc, value)?), rest))
+        negated(source, SUB, room, tokens)
     } else if is_next(tokens, NOT) {
-        let (value, rest) = operand_after(source, NOT, room, tokens)?;
-        Ok((Expr::Not(Box::new(source.alloc, value)?), rest))
-    } else if is_next(tokens, NUM) {
-        let (token, rest) = expect(tokens, NUM)?;
-        Ok((Expr::Num(number(token)), rest))
+        negated(source, NOT, room, tokens)
     } else if is_next(tokens, NAME) {
         named(source, room, tokens)
-    } else if is_next(tokens, REG) {
-        let (token, rest) = expect(tokens, REG)?;
-        Ok((Expr::Reg(source.register(token)?), rest))
-    } else if is_next(tokens, SELF) {
-        let (_, rest) = expect(tokens, SELF)?;
-        Ok((Expr::Me, rest))
-    } else if is_next(tokens, ROWS) {
-        rows(source, tokens)
-    } else {
+    } else if is_next(tokens, OPEN_PAREN) {
         group(source, room, tokens)
+    } else {
+        leaf(source, tokens)
     }
 }
 
@@ -287,22 +314,46 @@ fn members<'a>(
     Ok((members, rest))
 }
 
+// A chain of the first and the others, or the first alone where there are none.
+#[tactic(auto, using(task_ast::proofs::Views::view))]
+fn chained<'a>(source: Source<'_>, first: Expr, others: Seq<(Op, Expr)>) -> Result<Expr, Halt<'a>>
+    ensures { Gives plain_expr result (Ok (chain_of (plain_expr first, plain_members others))) }
+{
+    if others.is_empty() {
+        return Ok(first);
+    }
+    let first = Box::new(source.alloc, first)?;
+    Ok(Expr::Chain(first, others))
+}
+
+// A chain of two.
+fn compared<'a>(source: Source<'_>, first: Expr, other: (Op, Expr)) -> Result<Expr, Halt<'a>>
+    ensures { Gives plain_expr result (Ok (chain_of (plain_expr first, (other.0, plain_expr other.1) ∷ []))) }
+{
+    let mut others = Seq::new(source.alloc);
+    others.push(other)?;
+    chained(source, first, others)
+}
+
 /// Parts with operators of the level between them; not of comparisons.
-#[tactic(auto, using(task_ast::proofs::Views::view), unfolding(crate::specs::inner::ExpressionReaders::read_level))]
+#[tactic(auto, unfolding(crate::specs::inner::ExpressionReaders::read_level))]
 #[cycle(descent)]
 pub fn chain<'a>(source: Source<'_>, level: Level, room: u32, tokens: &'a [Token]) -> Read<'a, Expr>
     ensures { Gives (λ x. (plain_expr x.0, x.1.now)) result (read_level (operators level) (read_part level source.entry.text.now room) tokens.now) }
 {
     let (first, rest) = part(source, level, room, tokens)?;
-    let (others, rest) = members(source, level, room, rest)?;
-    if others.is_empty() {
-        return Ok((first, rest));
-    }
-    Ok((Expr::Chain(Box::new(source.alloc, first)?, others), rest))
+    let (others, rest) = match members(source, level, room, rest) {
+        Ok(next) => next,
+        Err(halt) => {
+            discard(first);
+            return Err(halt);
+        }
+    };
+    Ok((chained(source, first, others)?, rest))
 }
 
 // Two sums with a comparison between them, or one sum.
-#[tactic(auto, using(task_ast::proofs::Views::view), unfolding(crate::specs::inner::ExpressionReaders::read_compared))]
+#[tactic(auto, unfolding(crate::specs::inner::ExpressionReaders::read_compared))]
 #[cycle(descent)]
 fn comparison<'a>(source: Source<'_>, room: u32, tokens: &'a [Token]) -> Read<'a, Expr>
     ensures { Gives (λ x. (plain_expr x.0, x.1.now)) result (read_compared (read_part Level.Comparison source.entry.text.now room) tokens.now) }
@@ -311,11 +362,14 @@ fn comparison<'a>(source: Source<'_>, room: u32, tokens: &'a [Token]) -> Read<'a
     if !goes_on(Level::Comparison, rest) {
         return Ok((first, rest));
     }
-    let first = Box::new(source.alloc, first)?;
-    let (other, rest) = member(source, Level::Comparison, room, rest)?;
-    let mut others = Seq::new(source.alloc);
-    others.push(other)?;
-    Ok((Expr::Chain(first, others), rest))
+    let (other, rest) = match member(source, Level::Comparison, room, rest) {
+        Ok(next) => next,
+        Err(halt) => {
+            discard(first);
+            return Err(halt);
+        }
+    };
+    Ok((compared(source, first, other)?, rest))
 }
 
 /// An expression, with room for so many constructs that nest.

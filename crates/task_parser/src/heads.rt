@@ -14,14 +14,22 @@ use crate::token::Token;
 use gp_base::{Name, Seq};
 use task_ast::Head;
 
-// The word, a name, and a number in brackets.
+// The word, a name, a number between the two marks, and the word or mark after them.
 #[tactic(auto, unfolding(crate::specs::inner::ProgramReaders::read_sized))]
-fn sized<'a>(source: Source<'_>, word: u32, tokens: &'a [Token]) -> Read<'a, ((Token, Name), Token)>
-    ensures { Gives (λ x. ((x.0.0, number_of x.0.1), x.1.now)) result (read_sized source.entry.text.now word tokens.now) }
+fn sized<'a>(
+    source: Source<'_>,
+    word: u32,
+    opener: u32,
+    closer: u32,
+    after: u32,
+    tokens: &'a [Token],
+) -> Read<'a, ((Token, Name), Token)>
+    ensures { Gives (λ x. ((x.0.0, number_of x.0.1), x.1.now)) result (read_sized source.entry.text.now word opener closer after tokens.now) }
 {
-    let (head, rest) = expect_titled(source, word, OPEN_BRACKET, tokens)?;
+    let (head, rest) = expect_titled(source, word, opener, tokens)?;
     let (size, rest) = expect(rest, NUM)?;
-    let (_, rest) = expect(rest, CLOSE_BRACKET)?;
+    let (_, rest) = expect(rest, closer)?;
+    let (_, rest) = expect(rest, after)?;
     Ok(((head, size), rest))
 }
 
@@ -30,8 +38,14 @@ fn sized<'a>(source: Source<'_>, word: u32, tokens: &'a [Token]) -> Read<'a, ((T
 fn lock_head<'a>(source: Source<'_>, tokens: &'a [Token]) -> Read<'a, Head>
     ensures { Gives (λ x. (x.0, x.1.now)) result (read_lock_head source.entry.text.now tokens.now) }
 {
-    let (((word, name), size), rest) = sized(source, LOCK, tokens)?;
-    let (_, rest) = expect(rest, SEMICOLON)?;
+    let (((word, name), size), rest) = sized(
+        source,
+        LOCK,
+        OPEN_BRACKET,
+        CLOSE_BRACKET,
+        SEMICOLON,
+        tokens,
+    )?;
     let size = number(size);
     let line = word.line;
     Ok((Head::LockHead { name, size, line }, rest))
@@ -42,10 +56,14 @@ fn lock_head<'a>(source: Source<'_>, tokens: &'a [Token]) -> Read<'a, Head>
 fn barrier_head<'a>(source: Source<'_>, tokens: &'a [Token]) -> Read<'a, Head>
     ensures { Gives (λ x. (x.0, x.1.now)) result (read_barrier_head source.entry.text.now tokens.now) }
 {
-    let ((word, name), rest) = expect_titled(source, BARRIER, OPEN_PAREN, tokens)?;
-    let (count, rest) = expect(rest, NUM)?;
-    let (_, rest) = expect(rest, CLOSE_PAREN)?;
-    let (_, rest) = expect(rest, SEMICOLON)?;
+    let (((word, name), count), rest) = sized(
+        source,
+        BARRIER,
+        OPEN_PAREN,
+        CLOSE_PAREN,
+        SEMICOLON,
+        tokens,
+    )?;
     let number = number(count);
     let line = word.line;
     Ok((Head::BarrierHead { name, number, line }, rest))
@@ -69,8 +87,14 @@ fn from_file<'a>(source: Source<'_>, tokens: &'a [Token]) -> Read<'a, Option<Nam
 fn record_head<'a>(source: Source<'_>, tokens: &'a [Token]) -> Read<'a, Head>
     ensures { Gives (λ x. (x.0, x.1.now)) result (read_record_head source.entry.text.now tokens.now) }
 {
-    let (((word, name), size), rest) = sized(source, RECORD, tokens)?;
-    let (_, rest) = expect(rest, BY)?;
+    let (((word, name), size), rest) = sized(
+        source,
+        RECORD,
+        OPEN_BRACKET,
+        CLOSE_BRACKET,
+        BY,
+        tokens,
+    )?;
     let (array, rest) = expect(rest, NAME)?;
     let (from, rest) = from_file(source, rest)?;
     let (_, rest) = expect(rest, SEMICOLON)?;
@@ -94,8 +118,14 @@ fn record_head<'a>(source: Source<'_>, tokens: &'a [Token]) -> Read<'a, Head>
 fn feed_head<'a>(source: Source<'_>, tokens: &'a [Token]) -> Read<'a, Head>
     ensures { Gives (λ x. (x.0, x.1.now)) result (read_feed_head source.entry.text.now tokens.now) }
 {
-    let (((word, name), count), rest) = sized(source, FEED, tokens)?;
-    let (_, rest) = expect(rest, FROM)?;
+    let (((word, name), count), rest) = sized(
+        source,
+        FEED,
+        OPEN_BRACKET,
+        CLOSE_BRACKET,
+        FROM,
+        tokens,
+    )?;
     let (quoted, rest) = expect(rest, QUOTED)?;
     let (_, rest) = expect(rest, SEMICOLON)?;
     let fields = number(count);

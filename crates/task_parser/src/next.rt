@@ -3,9 +3,10 @@ ghost use Rattle.std.specs.Prelude.{◌≡◌, [], ◌∷◌};
 ghost use Rattle.task_parser.specs.inner.Classes.{class, among};
 ghost use Rattle.task_parser.specs.inner.Gives.{Gives};
 ghost use Rattle.task_parser.specs.inner.Reading.{begins, read_one};
+ghost use Rattle.task_parser.specs.inner.ExpressionReaders.{read_name, read_register};
 ghost use Rattle.task_parser.specs.inner.StatementReaders.{read_titled};
 
-use crate::classes::NAME;
+use crate::classes::{NAME, REG};
 use crate::halt::{Halt, Read};
 use crate::source::Source;
 use crate::token::{Kind, Token};
@@ -53,6 +54,22 @@ pub fn expect(tokens: &[Token], class: u32) -> Read<'_, Token>
         return Err(Halt::Unexpected(tokens));
     }
     Ok((*token, rest))
+}
+
+/// The name that is next, and what is after it.
+pub fn expect_name<'a>(source: Source<'_>, tokens: &'a [Token]) -> Read<'a, Name>
+    ensures { Gives (λ x. (x.0, x.1.now)) result (read_name source.entry.text.now tokens.now) }
+{
+    let (token, rest) = expect(tokens, NAME)?;
+    Ok((source.name(token)?, rest))
+}
+
+/// The data variable that is next, and what is after it.
+pub fn expect_register<'a>(source: Source<'_>, tokens: &'a [Token]) -> Read<'a, Name>
+    ensures { Gives (λ x. (x.0, x.1.now)) result (read_register source.entry.text.now tokens.now) }
+{
+    let (token, rest) = expect(tokens, REG)?;
+    Ok((source.register(token)?, rest))
 }
 
 /// The word, a name and the mark that are next, and what is after them.

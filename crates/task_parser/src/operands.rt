@@ -4,13 +4,13 @@ ghost use Rattle.task_ast.specs.View.{plain_expr, plain_exprs};
 ghost use Rattle.task_parser.specs.inner.Classes.{among};
 ghost use Rattle.task_parser.specs.inner.Reading.{begins, read_after, read_separated};
 ghost use Rattle.task_parser.specs.inner.ExpressionReaders.{starting, read_expression};
-ghost use Rattle.task_parser.specs.inner.StatementReaders.{read_atom, read_indexed, read_list, read_into_name, read_into_reg};
+ghost use Rattle.task_parser.specs.inner.StatementReaders.{read_atom, read_indexed, read_worded, read_list, read_into_name, read_into_reg};
 ghost use Rattle.task_parser.specs.inner.Gives.{Gives};
 
 use crate::classes::*;
 use crate::expressions::expression;
 use crate::halt::{Read, discard};
-use crate::next::{expect, expect_titled, is_next, is_of};
+use crate::next::{expect, expect_name, expect_register, expect_titled, is_next, is_of};
 use crate::source::{Source, number};
 use crate::token::Token;
 use gp_base::{Name, Seq};
@@ -25,18 +25,19 @@ fn atom<'a>(source: Source<'_>, tokens: &'a [Token]) -> Read<'a, Atom>
         let (token, rest) = expect(tokens, NUM)?;
         return Ok((Atom::Num(number(token)), rest));
     }
-    let (token, rest) = expect(tokens, NAME)?;
-    Ok((Atom::Var(source.name(token)?), rest))
+    let (name, rest) = expect_name(source, tokens)?;
+    Ok((Atom::Var(name), rest))
 }
 
-/// The word, a name, and an index in brackets.
+/// The word, a name, an index in brackets, and the word or mark after it.
 #[tactic(auto, unfolding(crate::specs::inner::StatementReaders::read_indexed))]
 pub fn indexed<'a>(
     source: Source<'_>,
     word: u32,
+    after: u32,
     tokens: &'a [Token],
 ) -> Read<'a, ((Token, Name), Atom)>
-    ensures { Gives (λ x. (x.0, x.1.now)) result (read_indexed source.entry.text.now word tokens.now) }
+    ensures { Gives (λ x. (x.0, x.1.now)) result (read_indexed source.entry.text.now word after tokens.now) }
 {
     let (head, rest) = expect_titled(source, word, OPEN_BRACKET, tokens)?;
     let (index, rest) = atom(source, rest)?;
@@ -47,7 +48,29 @@ pub fn indexed<'a>(
             return Err(halt);
         }
     };
+    let (_, rest) = match expect(rest, after) {
+        Ok(next) => next,
+        Err(halt) => {
+            discard(index);
+            return Err(halt);
+        }
+    };
     Ok(((head, index), rest))
+}
+
+/// The word, and an expression.
+#[tactic(auto, unfolding(crate::specs::inner::StatementReaders::read_worded))]
+pub fn worded<'a>(
+    source: Source<'_>,
+    word: u32,
+    room: u32,
+    tokens: &'a [Token],
+) -> Read<'a, (Token, Expr)>
+    ensures { Gives (λ x. ((x.0.0, plain_expr x.0.1), x.1.now)) result (read_worded word (read_expression source.entry.text.now room) tokens.now) }
+{
+    let (word, rest) = expect(tokens, word)?;
+    let (value, rest) = expression(source, room, rest)?;
+    Ok(((word, value), rest))
 }
 
 // A comma and an expression.
@@ -111,8 +134,8 @@ pub fn into_name<'a>(source: Source<'_>, tokens: &'a [Token]) -> Read<'a, Option
         return Ok((None, tokens));
     }
     let (_, rest) = expect(tokens, INTO)?;
-    let (token, rest) = expect(rest, NAME)?;
-    Ok((Some(source.name(token)?), rest))
+    let (name, rest) = expect_name(source, rest)?;
+    Ok((Some(name), rest))
 }
 
 /// The data variable after an `into`, if there is one.
@@ -124,6 +147,6 @@ pub fn into_register<'a>(source: Source<'_>, tokens: &'a [Token]) -> Read<'a, Op
         return Ok((None, tokens));
     }
     let (_, rest) = expect(tokens, INTO)?;
-    let (token, rest) = expect(rest, REG)?;
-    Ok((Some(source.register(token)?), rest))
+    let (register, rest) = expect_register(source, rest)?;
+    Ok((Some(register), rest))
 }

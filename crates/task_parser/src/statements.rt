@@ -1,24 +1,23 @@
 // Statements from tokens, by recursive descent: blocks, and statements with blocks.
 ghost use Rattle.std.specs.Prelude.{◌≡◌, []};
-ghost use Rattle.task_ast.specs.View.{plain_stmt, plain_stmts, plain_block};
+ghost use Rattle.task_ast.specs.View.{plain_expr, plain_what, plain_stmt, plain_stmts, plain_block};
 ghost use Rattle.task_parser.specs.inner.Classes.{among};
 ghost use Rattle.task_parser.specs.inner.Reading.{begins, repeat};
 ghost use Rattle.task_parser.specs.inner.ExpressionReaders.{read_expression};
-ghost use Rattle.task_parser.specs.inner.StatementReaders.{control_starts, data_starts, read_looping, read_branching, read_choosing, read_data_form, read_control_form, read_data_statement, read_statement};
-ghost use Rattle.task_parser.specs.inner.Gives.{Gives, starts, read_allowed, allowed_below, read_block_at, read_else_at};
+ghost use Rattle.task_parser.specs.inner.StatementReaders.{data_starts, read_looping, read_branching, read_data_form, read_any_form, read_data_statement, read_statement};
+ghost use Rattle.task_parser.specs.inner.Gives.{Gives, starts, read_allowed, allowed_below, read_block_at, read_else_at, branch_word, branch, read_branching_at};
 
 use crate::classes::*;
-use crate::expressions::expression;
 use crate::halt::{Halt, Read, discard};
 use crate::next::{expect, is_next, is_of};
+use crate::operands::worded;
 use crate::simple_statements::{
-    forking, joining, locking, printing, reading, set_ctl, set_register, settling, unlocking,
-    waiting, writing,
+    begins_simple_control, is_simple_control, simple_control, simple_data,
 };
 use crate::source::Source;
 use crate::token::Token;
 use gp_base::Seq;
-use task_ast::{Stmt, What};
+use task_ast::{Expr, Stmt, What};
 
 /// Which statements a block may hold: all, or data statements alone.
 #[derive(Clone, Copy)]
@@ -71,8 +70,7 @@ fn else_block<'a>(
 fn looping<'a>(source: Source<'_>, room: u32, tokens: &'a [Token]) -> Read<'a, Stmt>
     ensures { Gives (λ x. (plain_stmt x.0, x.1.now)) result (read_looping (read_expression source.entry.text.now room) (allowed_below Allowed.All source.entry.text.now room) tokens.now) }
 {
-    let (word, rest) = expect(tokens, WHILE)?;
-    let (condition, rest) = expression(source, room, rest)?;
+    let ((word, condition), rest) = worded(source, WHILE, room, tokens)?;
     let (body, rest) = match block(source, Allowed::All, room, rest) {
         Ok(next) => next,
         Err(halt) => {
@@ -81,77 +79,60 @@ fn looping<'a>(source: Source<'_>, room: u32, tokens: &'a [Token]) -> Read<'a, S
         }
     };
     let what = What::While(condition, body);
-    Ok((
-        Stmt {
-            what,
-            line: word.line,
-        },
-        rest,
-    ))
+    let line = word.line;
+    Ok((Stmt { what, line }, rest))
 }
 
-// `if expr { .. } else { .. }`, where the `else` may be left out
+// The word of a branch whose blocks hold such statements.
+fn branch_word(allowed: Allowed) -> u32
+    ensures { result ≡ branch_word allowed }
+{
+    match allowed {
+        Allowed::All => IF,
+        Allowed::Data => WHEN,
+    }
+}
+
+// A branch whose blocks hold such statements.
+#[tactic(auto, using(task_ast::proofs::Views::view))]
+fn branch(allowed: Allowed, condition: Expr, first: Seq<Stmt>, second: Seq<Stmt>) -> What
+    ensures { plain_what result ≡ branch allowed (plain_expr condition) (plain_block first) (plain_block second) }
+{
+    match allowed {
+        Allowed::All => What::If(condition, first, second),
+        Allowed::Data => What::When(condition, first, second),
+    }
+}
+
+// `if expr { .. } else { .. }`, or `when expr { .. } else { .. }` on data statements, where the `else` may be left out
 #[tactic(auto, using(task_ast::proofs::Views::view), unfolding(crate::specs::inner::StatementReaders::read_branching))]
 #[cycle(nesting)]
-fn branching<'a>(source: Source<'_>, room: u32, tokens: &'a [Token]) -> Read<'a, Stmt>
-    ensures { Gives (λ x. (plain_stmt x.0, x.1.now)) result (read_branching (read_expression source.entry.text.now room) (allowed_below Allowed.All source.entry.text.now room) tokens.now) }
+fn branching<'a>(
+    source: Source<'_>,
+    allowed: Allowed,
+    room: u32,
+    tokens: &'a [Token],
+) -> Read<'a, Stmt>
+    ensures { Gives (λ x. (plain_stmt x.0, x.1.now)) result (read_branching_at allowed source.entry.text.now room tokens.now) }
 {
-    let (word, rest) = expect(tokens, IF)?;
-    let (condition, rest) = expression(source, room, rest)?;
-    let (first, rest) = match block(source, Allowed::All, room, rest) {
+    let ((word, condition), rest) = worded(source, branch_word(allowed), room, tokens)?;
+    let (first, rest) = match block(source, allowed, room, rest) {
         Ok(next) => next,
         Err(halt) => {
             discard(condition);
             return Err(halt);
         }
     };
-    let (second, rest) = match else_block(source, Allowed::All, room, rest) {
+    let (second, rest) = match else_block(source, allowed, room, rest) {
         Ok(next) => next,
         Err(halt) => {
             discard(condition);
             return Err(halt);
         }
     };
-    let what = What::If(condition, first, second);
-    Ok((
-        Stmt {
-            what,
-            line: word.line,
-        },
-        rest,
-    ))
-}
-
-// `when expr { .. } else { .. }` on data statements, where the `else` may be left out
-#[tactic(auto, using(task_ast::proofs::Views::view), unfolding(crate::specs::inner::StatementReaders::read_choosing))]
-#[cycle(nesting)]
-fn choosing<'a>(source: Source<'_>, room: u32, tokens: &'a [Token]) -> Read<'a, Stmt>
-    ensures { Gives (λ x. (plain_stmt x.0, x.1.now)) result (read_choosing (read_expression source.entry.text.now room) (allowed_below Allowed.Data source.entry.text.now room) tokens.now) }
-{
-    let (word, rest) = expect(tokens, WHEN)?;
-    let (condition, rest) = expression(source, room, rest)?;
-    let (first, rest) = match block(source, Allowed::Data, room, rest) {
-        Ok(next) => next,
-        Err(halt) => {
-            discard(condition);
-            return Err(halt);
-        }
-    };
-    let (second, rest) = match else_block(source, Allowed::Data, room, rest) {
-        Ok(next) => next,
-        Err(halt) => {
-            discard(condition);
-            return Err(halt);
-        }
-    };
-    let what = What::When(condition, first, second);
-    Ok((
-        Stmt {
-            what,
-            line: word.line,
-        },
-        rest,
-    ))
+    let what = branch(allowed, condition, first, second);
+    let line = word.line;
+    Ok((Stmt { what, line }, rest))
 }
 
 // A data statement.
@@ -160,59 +141,11 @@ fn choosing<'a>(source: Source<'_>, room: u32, tokens: &'a [Token]) -> Read<'a, 
 fn data_statement<'a>(source: Source<'_>, room: u32, tokens: &'a [Token]) -> Read<'a, Stmt>
     ensures { Gives (λ x. (plain_stmt x.0, x.1.now)) result (read_data_statement source.entry.text.now room tokens.now) }
 {
-    if is_next(tokens, REG) {
-        set_register(source, room, tokens)
-    } else if is_next(tokens, READ) {
-        reading(source, tokens)
-    } else if is_next(tokens, WRITE) {
-        writing(source, room, tokens)
-    } else if is_next(tokens, PRINT) {
-        printing(source, room, tokens)
+    if is_next(tokens, WHEN) {
+        branching(source, Allowed::Data, room, tokens)
     } else {
-        choosing(source, room, tokens)
+        simple_data(source, room, tokens)
     }
-}
-
-// A statement that is not a data statement.
-#[tactic(auto, unfolding(crate::specs::inner::StatementReaders::read_control_form))]
-#[cycle(nesting)]
-fn control_statement<'a>(source: Source<'_>, room: u32, tokens: &'a [Token]) -> Read<'a, Stmt>
-    ensures { Gives (λ x. (plain_stmt x.0, x.1.now)) result (read_control_form source.entry.text.now (read_expression source.entry.text.now room) (allowed_below Allowed.All source.entry.text.now room) tokens.now) }
-{
-    if is_next(tokens, NAME) {
-        set_ctl(source, room, tokens)
-    } else if is_next(tokens, WHILE) {
-        looping(source, room, tokens)
-    } else if is_next(tokens, IF) {
-        branching(source, room, tokens)
-    } else if is_next(tokens, LOCK) {
-        locking(source, tokens)
-    } else if is_next(tokens, UNLOCK) {
-        unlocking(source, tokens)
-    } else if is_next(tokens, FORK) {
-        forking(source, room, tokens)
-    } else if is_next(tokens, JOIN) {
-        joining(source, room, tokens)
-    } else if is_next(tokens, BARRIER) {
-        waiting(source, tokens)
-    } else {
-        settling(source, tokens)
-    }
-}
-
-// Whether a statement that is not a data statement begins with the token.
-fn is_control_start(token: Token) -> bool
-    ensures { result ≡ among control_starts token }
-{
-    is_of(token, NAME)
-        || is_of(token, WHILE)
-        || is_of(token, IF)
-        || is_of(token, LOCK)
-        || is_of(token, UNLOCK)
-        || is_of(token, FORK)
-        || is_of(token, JOIN)
-        || is_of(token, BARRIER)
-        || is_of(token, SETTLE)
 }
 
 // Whether a data statement begins with the token.
@@ -231,7 +164,12 @@ fn is_start(allowed: Allowed, token: Token) -> bool
     ensures { result ≡ among (starts allowed) token }
 {
     match allowed {
-        Allowed::All => is_control_start(token) || is_data_start(token),
+        Allowed::All => {
+            is_of(token, WHILE)
+                || is_of(token, IF)
+                || is_simple_control(token)
+                || is_data_start(token)
+        }
         Allowed::Data => is_data_start(token),
     }
 }
@@ -246,24 +184,18 @@ fn begins_statement(allowed: Allowed, tokens: &[Token]) -> bool
     }
 }
 
-// Whether a statement that is not a data statement is next.
-fn begins_control(tokens: &[Token]) -> bool
-    ensures { result ≡ begins (among control_starts) tokens.now }
-{
-    match tokens {
-        [] => false,
-        [token, ..] => is_control_start(*token),
-    }
-}
-
 // A statement.
-#[tactic(auto, unfolding(crate::specs::inner::StatementReaders::read_statement))]
+#[tactic(auto, unfolding(crate::specs::inner::StatementReaders::read_any_form, crate::specs::inner::StatementReaders::read_statement))]
 #[cycle(nesting)]
 fn any_statement<'a>(source: Source<'_>, room: u32, tokens: &'a [Token]) -> Read<'a, Stmt>
     ensures { Gives (λ x. (plain_stmt x.0, x.1.now)) result (read_statement source.entry.text.now room tokens.now) }
 {
-    if begins_control(tokens) {
-        control_statement(source, room, tokens)
+    if is_next(tokens, WHILE) {
+        looping(source, room, tokens)
+    } else if is_next(tokens, IF) {
+        branching(source, Allowed::All, room, tokens)
+    } else if begins_simple_control(tokens) {
+        simple_control(source, room, tokens)
     } else {
         data_statement(source, room, tokens)
     }

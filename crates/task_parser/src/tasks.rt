@@ -4,16 +4,16 @@ ghost use Rattle.task_ast.specs.View.{plain_task};
 ghost use Rattle.task_parser.specs.inner.Classes.{among};
 ghost use Rattle.task_parser.specs.inner.Reading.{begins, repeat, read_after, read_some, read_separated};
 ghost use Rattle.task_parser.specs.inner.StatementReaders.{read_list};
-ghost use Rattle.task_parser.specs.inner.ProgramReaders.{param_starts, read_param, read_var_line, read_task};
+ghost use Rattle.task_parser.specs.inner.ProgramReaders.{param_starts, read_param, read_var_line, read_task_head, read_task};
 ghost use Rattle.task_parser.specs.inner.Gives.{Gives};
 
 use crate::classes::*;
 use crate::halt::Read;
-use crate::next::{expect, expect_titled, is_next, is_of};
+use crate::next::{expect, expect_name, expect_register, expect_titled, is_next, is_of};
 use crate::source::Source;
 use crate::statements::{Allowed, statements};
 use crate::token::Token;
-use gp_base::Seq;
+use gp_base::{Name, Seq};
 use task_ast::{Param, TaskText, VarLine};
 
 // A control variable or a data variable.
@@ -22,11 +22,11 @@ fn param<'a>(source: Source<'_>, tokens: &'a [Token]) -> Read<'a, Param>
     ensures { Gives (λ x. (x.0, x.1.now)) result (read_param source.entry.text.now tokens.now) }
 {
     if is_next(tokens, NAME) {
-        let (token, rest) = expect(tokens, NAME)?;
-        return Ok((Param::Ctl(source.name(token)?), rest));
+        let (name, rest) = expect_name(source, tokens)?;
+        return Ok((Param::Ctl(name), rest));
     }
-    let (token, rest) = expect(tokens, REG)?;
-    Ok((Param::Reg(source.register(token)?), rest))
+    let (register, rest) = expect_register(source, tokens)?;
+    Ok((Param::Reg(register), rest))
 }
 
 // A comma and a variable.
@@ -100,15 +100,24 @@ fn var_lines<'a>(source: Source<'_>, tokens: &'a [Token]) -> Read<'a, Seq<VarLin
     Ok((lines, rest))
 }
 
+// `task NAME ( params ) {`, where the parameters may be left out
+#[tactic(auto, unfolding(crate::specs::inner::ProgramReaders::read_task_head))]
+fn task_head<'a>(source: Source<'_>, tokens: &'a [Token]) -> Read<'a, ((Token, Name), Seq<Param>)>
+    ensures { Gives (λ x. (x.0, x.1.now)) result (read_task_head source.entry.text.now tokens.now) }
+{
+    let (head, rest) = expect_titled(source, TASK, OPEN_PAREN, tokens)?;
+    let (params, rest) = param_list(source, rest)?;
+    let (_, rest) = expect(rest, CLOSE_PAREN)?;
+    let (_, rest) = expect(rest, OPEN_BRACE)?;
+    Ok(((head, params), rest))
+}
+
 // A task, with room for so many constructs that nest.
 #[tactic(auto, unfolding(crate::specs::inner::ProgramReaders::read_task))]
 fn task<'a>(source: Source<'_>, room: u32, tokens: &'a [Token]) -> Read<'a, TaskText>
     ensures { Gives (λ x. (plain_task x.0, x.1.now)) result (read_task source.entry.text.now room tokens.now) }
 {
-    let ((word, name), rest) = expect_titled(source, TASK, OPEN_PAREN, tokens)?;
-    let (params, rest) = param_list(source, rest)?;
-    let (_, rest) = expect(rest, CLOSE_PAREN)?;
-    let (_, rest) = expect(rest, OPEN_BRACE)?;
+    let (((word, name), params), rest) = task_head(source, tokens)?;
     let (vars, rest) = var_lines(source, rest)?;
     let (body, rest) = statements(source, Allowed::All, room, rest)?;
     let (_, rest) = expect(rest, CLOSE_BRACE)?;

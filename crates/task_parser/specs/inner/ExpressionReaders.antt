@@ -1,5 +1,5 @@
 -- Reading expressions, form by form.
-use Rattle.std.specs.Prelude.{ℕ, zero, suc, ℤ, pos, List, [], ◌∷◌, Option, Some, None, option_map}
+use Rattle.std.specs.Prelude.{ℕ, zero, suc, cond, nat_eq, ℤ, pos, List, [], ◌∷◌, Option, Some, None, option_map}
 use Rattle.task_ast.specs.declared.tree.Op.{Op}
 use Rattle.task_ast.specs.meaning.Tree.{Expr, Num, Reg, Me, Rows, Neg, Not}
 use Rattle.task_parser.specs.declared.token.Kind.{Kind}
@@ -72,16 +72,27 @@ read_rows text = read_made Rows (read_after ROWS (read_after OPEN_PAREN (read_na
 unfoldable pub read_group : Option (Reader Expr) → Reader Expr
 read_group inner = read_opened (is OPEN_PAREN) (option_map read_disjunction inner) ◃ CLOSE_PAREN
 
-unfoldable pub read_operand : Text → Option (Reader Expr) → Reader Expr
-read_operand text inner =
-    read_either (is SUB) (read_made Neg (read_opened (is SUB) inner))
-    (read_either (is NOT) (read_made Not (read_opened (is NOT) inner))
-    (read_either (is NUM) (read_made Num read_number)
-    (read_either (is NAME) (read_named text inner)
+-- by the class of the sign
+abbrev pub negation : ℕ → Expr → Expr
+negation sign = cond (nat_eq sign SUB) Neg Not
+
+unfoldable pub read_negation : ℕ → Option (Reader Expr) → Reader Expr
+read_negation sign inner = read_made (negation sign) (read_opened (is sign) inner)
+
+unfoldable pub read_leaf : Text → Reader Expr
+read_leaf text =
+    read_either (is NUM) (read_made Num read_number)
     (read_either (is REG) (read_made Reg (read_register text))
     (read_either (is SELF) (read_made (λ t. Me) (read_the SELF))
-    (read_either (is ROWS) (read_rows text)
-    (read_group inner)))))))
+    (read_rows text)))
+
+unfoldable pub read_operand : Text → Option (Reader Expr) → Reader Expr
+read_operand text inner =
+    read_either (is SUB) (read_negation SUB inner)
+    (read_either (is NOT) (read_negation NOT inner)
+    (read_either (is NAME) (read_named text inner)
+    (read_either (is OPEN_PAREN) (read_group inner)
+    (read_leaf text))))
 
 -- with room for so many constructs that nest
 unfoldable pub read_unary : Text → ℕ → Reader Expr

@@ -1,18 +1,18 @@
 -- What the code reads, against reading on lists.
 use Rattle.std.specs.Prelude.{◌≡◌, ℕ, zero, suc, Option, Some, None, true, false, List, [], ◌∷◌, Result, Ok, Err}
-use Rattle.task_ast.specs.meaning.Tree.{Expr, Stmt, Block}
+use Rattle.task_ast.specs.meaning.Tree.{Expr, Stmt, What, If, When, Block}
 use Rattle.task_parser.specs.declared.halt.Halt.{Halt}
 use Rattle.task_parser.specs.declared.halt.Halt.TheVariants.{Memory, Unexpected, TooDeep}
-use Rattle.task_parser.specs.declared.classes.TheConstants.{AND, OR, ADD, SUB, MUL, DIV, REM}
+use Rattle.task_parser.specs.declared.classes.TheConstants.{IF, WHEN, AND, OR, ADD, SUB, MUL, DIV, REM}
 use Rattle.task_parser.specs.declared.expressions.Level.{Level}
 use Rattle.task_parser.specs.declared.expressions.Level.TheVariants as levels
 use Rattle.task_parser.specs.declared.statements.Allowed.{Allowed}
 use Rattle.task_parser.specs.declared.statements.Allowed.TheVariants.{All, Data}
-use Rattle.task_parser.specs.inner.StatementReaders.{data_starts, statement_starts, read_block, read_else, read_data_statement, read_statement}
+use Rattle.task_parser.specs.inner.StatementReaders.{data_starts, statement_starts, read_block, read_else, read_branching, read_data_statement, read_statement}
 use Rattle.task_parser.specs.inner.Reading.{Reader}
 use Rattle.task_parser.specs.meaning.Promise.{Stop}
 use Rattle.task_parser.specs.meaning.Expressions.{Text}
-use Rattle.task_parser.specs.inner.ExpressionReaders.{comparisons, read_product, read_sum, read_compared, read_conjunction, read_unary}
+use Rattle.task_parser.specs.inner.ExpressionReaders.{comparisons, read_product, read_sum, read_compared, read_conjunction, read_unary, read_expression}
 
 -- Want of memory says nothing of the tokens.
 abbrev pub Fails : {Y : Type 0} → Halt → Result Y Stop → Type 0
@@ -61,3 +61,16 @@ read_block_at allowed text room = read_block (starts allowed) (allowed_below all
 
 abbrev pub read_else_at : Allowed → Text → ℕ → Reader Block
 read_else_at allowed text room = read_else (starts allowed) (allowed_below allowed text room)
+
+-- the branch whose blocks hold such statements
+abbrev pub branch_word : Allowed → ℕ
+branch_word All = IF
+branch_word Data = WHEN
+
+abbrev pub branch : Allowed → Expr → Block → Block → What
+branch All = If
+branch Data = When
+
+abbrev pub read_branching_at : Allowed → Text → ℕ → Reader Stmt
+read_branching_at allowed text room =
+    read_branching (branch_word allowed) (branch allowed) (starts allowed) (read_expression text room) (allowed_below allowed text room)

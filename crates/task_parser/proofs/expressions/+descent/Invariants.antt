@@ -11,8 +11,11 @@ use Rattle.task_parser.proofs.expressions.+descent.Given as goal
 abbrev pub decreases-named : goal.decreases-named
 decreases-named l = l.room * 64 + 1
 
-abbrev pub decreases-operand_after : goal.decreases-operand_after
-decreases-operand_after l = l.room * 64
+abbrev pub decreases-negated : goal.decreases-negated
+decreases-negated l = l.room * 64
+
+abbrev pub decreases-closed : goal.decreases-closed
+decreases-closed l = l.room * 64 + 31
 
 abbrev pub decreases-group : goal.decreases-group
 decreases-group l = l.room * 64

@@ -4,10 +4,4 @@ use Rattle.task_parser.proofs.heads.barrier_head.Goals as goal
 
 pub returns : goal.returns
 unfolding read_barrier_head
-returns c =
-    rw (
-      c.in_ok-word.ensures,
-      c.in_ok-count.ensures,
-      c.in_ok-rest.ensures,
-      c.in_ok-rest-2.ensures,
-    ) (search (rules, c.number-number.ensures))
+returns c = rw c.in_ok-word.ensures (search (rules, c.number-number.ensures))

@@ -7,8 +7,7 @@ unfolding read_feed_head
 returns c =
     rw (
       c.in_ok-word.ensures,
-      c.in_ok-rest.ensures,
       c.in_ok-quoted.ensures,
-      c.in_ok-rest-2.ensures,
+      c.in_ok-rest.ensures,
       c.in_ok-from.ensures,
     ) (search (rules, c.number-fields.ensures))

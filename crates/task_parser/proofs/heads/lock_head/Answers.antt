@@ -4,4 +4,4 @@ use Rattle.task_parser.proofs.heads.lock_head.Goals as goal
 
 pub returns : goal.returns
 unfolding read_lock_head
-returns c = rw (c.in_ok-word.ensures, c.in_ok-rest.ensures) (search (rules, c.number-size.ensures))
+returns c = rw c.in_ok-word.ensures (search (rules, c.number-size.ensures))

@@ -7,9 +7,8 @@ unfolding read_record_head
 returns c =
     rw (
       c.in_ok-word.ensures,
-      c.in_ok-rest.ensures,
       c.in_ok-array.ensures,
       c.in_ok-from.ensures,
-      c.in_ok-rest-2.ensures,
+      c.in_ok-rest.ensures,
       c.in_ok-by.ensures,
     ) (search (rules, c.number-size.ensures))

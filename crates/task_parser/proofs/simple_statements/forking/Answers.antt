@@ -8,8 +8,6 @@ unfolding read_forking
 returns c =
     rw (
       c.in_ok-word.ensures,
-      c.in_ok-arguments.ensures,
-      c.in_ok-rest.ensures,
       c.in_ok-into.ensures,
       c.in-Ok.ensures,
       stmt_At,

@@ -10,7 +10,6 @@ returns c =
       c.in_ok-word.ensures,
       c.in-Ok.ensures,
       c.in-Ok-expect.ensures,
-      c.in-Ok-expect-2.ensures,
       stmt_At,
       what_Read,
       c.in-Ok-register.ensures,

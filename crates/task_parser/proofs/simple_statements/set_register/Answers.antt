@@ -8,10 +8,7 @@ unfolding read_set_reg
 returns c =
     rw (
       c.in_ok-variable.ensures,
-      c.in_ok-rest.ensures,
-      c.in_ok-value.ensures,
-      c.in-Ok.ensures,
       stmt_At,
       what_SetReg,
-      c.in_ok-register.ensures,
+      c.in-Ok.ensures,
     ) refl

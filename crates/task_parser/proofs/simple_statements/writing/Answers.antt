@@ -9,7 +9,6 @@ returns c =
     rw (
       c.in_ok-word.ensures,
       c.in-Ok.ensures,
-      c.in-Ok-expression.ensures,
       c.in-Ok-expect.ensures,
       stmt_At,
       what_Write,

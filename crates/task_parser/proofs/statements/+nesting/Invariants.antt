@@ -18,14 +18,8 @@ decreases-looping l = l.room * 8 + 2
 abbrev pub decreases-branching : goal.decreases-branching
 decreases-branching l = l.room * 8 + 2
 
-abbrev pub decreases-choosing : goal.decreases-choosing
-decreases-choosing l = l.room * 8 + 2
-
 abbrev pub decreases-data_statement : goal.decreases-data_statement
 decreases-data_statement l = l.room * 8 + 3
-
-abbrev pub decreases-control_statement : goal.decreases-control_statement
-decreases-control_statement l = l.room * 8 + 3
 
 abbrev pub decreases-any_statement : goal.decreases-any_statement
 decreases-any_statement l = l.room * 8 + 4

@@ -7,10 +7,7 @@ unfolding read_task
 returns c =
     rw (
       c.in_ok-word.ensures,
-      c.in_ok-params.ensures,
-      c.in_ok-rest.ensures,
-      c.in_ok-rest-2.ensures,
       c.in_ok-vars.ensures,
       c.in_ok-body.ensures,
-      c.in_ok-rest-3.ensures,
+      c.in_ok-rest.ensures,
     ) refl
