@@ -2,7 +2,7 @@
 -- begins, and with which it could go on, are lists of kinds here, so that what the laws of Exact ask of them (apart,
 -- within) is computed.
 use Prim.Native.String.{String}
-use Rattle.std.proofs.Common.{◌≡◌, ℕ, zero, suc, ◌+◌, true, List, [], ◌∷◌, Option, Some, None, option_map, nat_eq, refl, sym, ap, ◌∙◌, ◌⊎◌, inl, inr, arith}
+use Rattle.std.proofs.Common.{◌≡◌, ℕ, zero, suc, ◌+◌, true, List, [], ◌∷◌, ◌++◌, Result, Ok, Err, Option, Some, None, option_map, nat_eq, refl, sym, ap, ◌∙◌, ◌⊎◌, inl, inr, arith}
 use Rattle.std.proofs.Math.Bool.{or-true}
 use Rattle.std.proofs.lemmas.Bool.{eq-eqb}
 use Rattle.task_ast.specs.declared.tree.Op.{Op}
@@ -10,10 +10,11 @@ use Rattle.task_parser.specs.declared.classes.TheConstants.{NUM, NAME, REG}
 use Rattle.task_parser.specs.declared.token.Kind.{Kind}
 use Rattle.task_parser.specs.declared.token.Kind.TheVariants.{Num, Name, Reg, Quoted, Word, Mark}
 use Rattle.task_parser.specs.declared.token.Token.{Token}
-use Rattle.task_parser.specs.meaning.Words.{Placed, Form, One, Both, Made, ◌∣◌, many, perhaps, Opened, nothing, first_of, second_of, put_first, of_kind, IsWritten, the, ◌◂◌, preceded, some, separated}
+use Rattle.task_parser.specs.meaning.Words.{Placed, Form, tokens_of, One, Both, Made, ◌∣◌, many, perhaps, Opened, nothing, first_of, second_of, put_first, of_kind, IsWritten, the, ◌◂◌, preceded, some, separated}
 use Rattle.task_parser.specs.meaning.Expressions.{Text, name_of, reg_name, name, register, number, operator}
 use Rattle.task_parser.specs.inner.ExpressionReaders.{number_in, number_of, read_name, read_register, read_number, read_operator}
 use Rattle.task_parser.specs.inner.Reading.{Reader, read_one, read_both, read_made, read_either, repeat, read_perhaps, read_opened, read_the, ◌◃◌, read_after, read_some, read_separated}
+use Rattle.task_parser.specs.meaning.Promise.{Stop}
 use Rattle.task_parser.specs.inner.Laws.{Sound, Complete, Starts, Inhabited, Parted}
 use Rattle.task_parser.proofs.Exact.{Passes, OpenedBy, Covers, outcome_as, sound_one, sound_both, sound_made, sound_either, sound_opened, sound_opened_none, complete_one, complete_both, complete_made, complete_either, complete_opened, complete_opened_none, complete_wider, starts_one, starts_both, starts_made, starts_either, starts_opened, starts_wider, inhabited_one, inhabited_both, inhabited_made, inhabited_left, inhabited_opened, parted_starts, parted_made}
 use Rattle.task_parser.specs.inner.Classes.{class, holds, among, operator_in, op_of}
@@ -183,14 +184,52 @@ reads_perhaps {room = room} {T = T} {P = P} {p = p} {first = first} {goes = goes
 }
 
 -- a mark that leaves none after it, or before it
+-- the same of a reader that gives the same
+reads_same : {A : Type 0} {room : ℕ} {T P : Form A} {p q : Reader A} {first goes : List ℕ} → ((ts : List Token) → q ts ≡ p ts)
+    → Reads room T P p first goes → Reads room T P q first goes
+reads_same {room = room} {T = T} {p = p} {q = q} same h = record {
+  starts = h.starts;
+  starts_tall = h.starts_tall;
+  inhabited = h.inhabited;
+  sound =
+      λ depth ts. rw (same ts)
+      (outcome_as (depth + room) depth T T p q ts (λ placed value k. k) (λ other alike. same other) (p ts) (h.sound depth ts));
+  complete = λ depth used value rest k end. rw (same (tokens_of used ++ rest)) (h.complete depth used value rest k end);
+}
+
+mark_read : {A : Type 0} (p : Reader A) (n : ℕ) (ts : List Token) (x : A × List Token) (marked : Result (Token × List Token) Stop)
+    → p ts ≡ Ok x → read_the n x.1 ≡ marked → (p ◃ n) ts ≡ read_made first_of (read_both p (read_the n)) ts
+mark_read p n ts x (Ok y) h k = rw (h, k) refl
+mark_read p n ts x (Err e) h k = rw (h, k) refl
+
+mark_same : {A : Type 0} (p : Reader A) (n : ℕ) (ts : List Token) → (p ◃ n) ts ≡ read_made first_of (read_both p (read_the n)) ts
+mark_same {A = A} p n ts = go (p ts) refl
+  where
+    go : (read : Result (A × List Token) Stop) → p ts ≡ read → (p ◃ n) ts ≡ read_made first_of (read_both p (read_the n)) ts
+    go (Ok x) h = mark_read p n ts x (read_the n x.1) h refl
+    go (Err e) h = rw h refl
+
+after_read : {A : Type 0} (n : ℕ) (p : Reader A) (ts : List Token) (x : Token × List Token) (last : Result (A × List Token) Stop)
+    → read_the n ts ≡ Ok x → p x.1 ≡ last → read_after n p ts ≡ read_made second_of (read_both (read_the n) p) ts
+after_read n p ts x (Ok y) h k = rw (h, k) refl
+after_read n p ts x (Err e) h k = rw (h, k) refl
+
+after_same : {A : Type 0} (n : ℕ) (p : Reader A) (ts : List Token) → read_after n p ts ≡ read_made second_of (read_both (read_the n) p) ts
+after_same n p ts = go (read_the n ts) refl
+  where
+    go : (read : Result (Token × List Token) Stop) → read_the n ts ≡ read
+        → read_after n p ts ≡ read_made second_of (read_both (read_the n) p) ts
+    go (Ok x) h = after_read n p ts x (p x.1) h refl
+    go (Err e) h = rw h refl
+
 pub reads_mark : {A : Type 0} {room : ℕ} {T P : Form A} {p : Reader A} {first goes : List ℕ} (text : String) (n : ℕ)
     → IsOf text n → disjoint (n ∷ []) goes ≡ true → Reads room T P p first goes → Reads room (T ◂ text) (P ◂ text) (p ◃ n) first []
-reads_mark text n is d h = reads_made first_of (reads_both h (reads_the text n is) d)
+reads_mark {p = p} text n is d h = reads_same (mark_same p n) (reads_made first_of (reads_both h (reads_the text n is) d))
 
 pub reads_after : {A : Type 0} {room : ℕ} {T P : Form A} {p : Reader A} {first goes : List ℕ} (text : String) (n : ℕ)
     → IsOf text n → disjoint first [] ≡ true → Reads room T P p first goes
     → Reads room (preceded text T) (preceded text P) (read_after n p) (n ∷ []) goes
-reads_after text n is d h = reads_made second_of (reads_both (reads_the text n is) h d)
+reads_after {p = p} text n is d h = reads_same (after_same n p) (reads_made second_of (reads_both (reads_the text n is) h d))
 
 -- one or more
 pub reads_some : {A : Type 0} {room : ℕ} {T P : Form A} {p : Reader A} {first goes : List ℕ} (further : List ℕ) → disjoint first goes ≡ true

@@ -10,7 +10,7 @@ ghost use Rattle.task_parser.specs.inner.Gives.{Gives, operators, read_part};
 
 use crate::classes::*;
 use crate::halt::{Halt, Read, discard};
-use crate::next::{expect, expect_name, expect_register, is_next, is_of};
+use crate::next::{expect, expect_name, expect_register, is_next, is_of, past};
 use crate::source::{Source, number};
 use crate::token::Token;
 use gp_base::{Name, Seq};
@@ -135,8 +135,8 @@ fn closed<'a>(source: Source<'_>, mark: u32, room: u32, tokens: &'a [Token]) -> 
     ensures { Gives (λ x. (plain_expr x.0, x.1.now)) result ((read_expression source.entry.text.now room ◃ mark) tokens.now) }
 {
     let (value, rest) = chain(source, Level::Or, room, tokens)?;
-    match expect(rest, mark) {
-        Ok((_, rest)) => Ok((value, rest)),
+    match past(rest, mark) {
+        Ok(rest) => Ok((value, rest)),
         Err(halt) => {
             discard(value);
             Err(halt)
@@ -175,8 +175,8 @@ fn place<'a>(source: Source<'_>, room: u32, tokens: &'a [Token]) -> Read<'a, (Ex
             return Err(halt);
         }
     };
-    let (_, rest) = match expect(rest, CLOSE_BRACKET) {
-        Ok(next) => next,
+    let rest = match past(rest, CLOSE_BRACKET) {
+        Ok(rest) => rest,
         Err(halt) => {
             discard((row, field));
             return Err(halt);
@@ -220,10 +220,10 @@ fn named<'a>(source: Source<'_>, room: u32, tokens: &'a [Token]) -> Read<'a, Exp
 fn rows<'a>(source: Source<'_>, tokens: &'a [Token]) -> Read<'a, Expr>
     ensures { Gives (λ x. (plain_expr x.0, x.1.now)) result (read_rows source.entry.text.now tokens.now) }
 {
-    let (_, rest) = expect(tokens, ROWS)?;
-    let (_, rest) = expect(rest, OPEN_PAREN)?;
+    let rest = past(tokens, ROWS)?;
+    let rest = past(rest, OPEN_PAREN)?;
     let (token, rest) = expect(rest, NAME)?;
-    let (_, rest) = expect(rest, CLOSE_PAREN)?;
+    let rest = past(rest, CLOSE_PAREN)?;
     Ok((Expr::Rows(source.name(token)?), rest))
 }
 

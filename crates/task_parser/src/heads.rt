@@ -8,7 +8,7 @@ ghost use Rattle.task_parser.specs.inner.Gives.{Gives};
 
 use crate::classes::*;
 use crate::halt::Read;
-use crate::next::{expect, expect_titled, is_next, is_of};
+use crate::next::{expect, expect_titled, is_next, is_of, past};
 use crate::source::{Source, number};
 use crate::token::Token;
 use gp_base::{Name, Seq};
@@ -28,8 +28,8 @@ fn sized<'a>(
 {
     let (head, rest) = expect_titled(source, word, opener, tokens)?;
     let (size, rest) = expect(rest, NUM)?;
-    let (_, rest) = expect(rest, closer)?;
-    let (_, rest) = expect(rest, after)?;
+    let rest = past(rest, closer)?;
+    let rest = past(rest, after)?;
     Ok(((head, size), rest))
 }
 
@@ -77,7 +77,7 @@ fn from_file<'a>(source: Source<'_>, tokens: &'a [Token]) -> Read<'a, Option<Nam
     if !is_next(tokens, FROM) {
         return Ok((None, tokens));
     }
-    let (_, rest) = expect(tokens, FROM)?;
+    let rest = past(tokens, FROM)?;
     let (token, rest) = expect(rest, QUOTED)?;
     Ok((Some(source.file(token)?), rest))
 }
@@ -97,7 +97,7 @@ fn record_head<'a>(source: Source<'_>, tokens: &'a [Token]) -> Read<'a, Head>
     )?;
     let (array, rest) = expect(rest, NAME)?;
     let (from, rest) = from_file(source, rest)?;
-    let (_, rest) = expect(rest, SEMICOLON)?;
+    let rest = past(rest, SEMICOLON)?;
     let by = source.name(array)?;
     let size = number(size);
     let line = word.line;
@@ -127,7 +127,7 @@ fn feed_head<'a>(source: Source<'_>, tokens: &'a [Token]) -> Read<'a, Head>
         tokens,
     )?;
     let (quoted, rest) = expect(rest, QUOTED)?;
-    let (_, rest) = expect(rest, SEMICOLON)?;
+    let rest = past(rest, SEMICOLON)?;
     let fields = number(count);
     let from = source.file(quoted)?;
     let line = word.line;

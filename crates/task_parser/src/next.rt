@@ -2,7 +2,7 @@
 ghost use Rattle.std.specs.Prelude.{◌≡◌, [], ◌∷◌};
 ghost use Rattle.task_parser.specs.inner.Classes.{class, among};
 ghost use Rattle.task_parser.specs.inner.Gives.{Gives};
-ghost use Rattle.task_parser.specs.inner.Reading.{begins, read_one};
+ghost use Rattle.task_parser.specs.inner.Reading.{begins, read_one, read_past};
 ghost use Rattle.task_parser.specs.inner.ExpressionReaders.{read_name, read_register};
 ghost use Rattle.task_parser.specs.inner.StatementReaders.{read_titled};
 
@@ -56,6 +56,16 @@ pub fn expect(tokens: &[Token], class: u32) -> Read<'_, Token>
     Ok((*token, rest))
 }
 
+/// What is after the token of the class that is next.
+pub fn past(tokens: &[Token], class: u32) -> Result<&[Token], Halt<'_>>
+    ensures { Gives (λ rest. rest.now) result (read_past class tokens.now) }
+{
+    match tokens {
+        [token, rest @ ..] if is_of(*token, class) => Ok(rest),
+        _ => Err(Halt::Unexpected(tokens)),
+    }
+}
+
 /// The name that is next, and what is after it.
 pub fn expect_name<'a>(source: Source<'_>, tokens: &'a [Token]) -> Read<'a, Name>
     ensures { Gives (λ x. (x.0, x.1.now)) result (read_name source.entry.text.now tokens.now) }
@@ -83,6 +93,6 @@ pub fn expect_titled<'a>(
 {
     let (word, rest) = expect(tokens, word)?;
     let (title, rest) = expect(rest, NAME)?;
-    let (_, rest) = expect(rest, mark)?;
+    let rest = past(rest, mark)?;
     Ok(((word, source.name(title)?), rest))
 }

@@ -10,7 +10,7 @@ ghost use Rattle.task_parser.specs.inner.Gives.{Gives};
 use crate::classes::*;
 use crate::expressions::expression;
 use crate::halt::{Read, discard};
-use crate::next::{expect, expect_name, expect_register, expect_titled, is_next, is_of};
+use crate::next::{expect, expect_name, expect_register, expect_titled, is_next, is_of, past};
 use crate::source::{Source, number};
 use crate::token::Token;
 use gp_base::{Name, Seq};
@@ -41,15 +41,15 @@ pub fn indexed<'a>(
 {
     let (head, rest) = expect_titled(source, word, OPEN_BRACKET, tokens)?;
     let (index, rest) = atom(source, rest)?;
-    let (_, rest) = match expect(rest, CLOSE_BRACKET) {
-        Ok(next) => next,
+    let rest = match past(rest, CLOSE_BRACKET) {
+        Ok(rest) => rest,
         Err(halt) => {
             discard(index);
             return Err(halt);
         }
     };
-    let (_, rest) = match expect(rest, after) {
-        Ok(next) => next,
+    let rest = match past(rest, after) {
+        Ok(rest) => rest,
         Err(halt) => {
             discard(index);
             return Err(halt);
@@ -77,7 +77,7 @@ pub fn worded<'a>(
 fn next_expr<'a>(source: Source<'_>, room: u32, tokens: &'a [Token]) -> Read<'a, Expr>
     ensures { Gives (λ x. (plain_expr x.0, x.1.now)) result (read_after COMMA (read_expression source.entry.text.now room) tokens.now) }
 {
-    let (_, rest) = expect(tokens, COMMA)?;
+    let rest = past(tokens, COMMA)?;
     expression(source, room, rest)
 }
 
@@ -133,7 +133,7 @@ pub fn into_name<'a>(source: Source<'_>, tokens: &'a [Token]) -> Read<'a, Option
     if !is_next(tokens, INTO) {
         return Ok((None, tokens));
     }
-    let (_, rest) = expect(tokens, INTO)?;
+    let rest = past(tokens, INTO)?;
     let (name, rest) = expect_name(source, rest)?;
     Ok((Some(name), rest))
 }
@@ -146,7 +146,7 @@ pub fn into_register<'a>(source: Source<'_>, tokens: &'a [Token]) -> Read<'a, Op
     if !is_next(tokens, INTO) {
         return Ok((None, tokens));
     }
-    let (_, rest) = expect(tokens, INTO)?;
+    let rest = past(tokens, INTO)?;
     let (register, rest) = expect_register(source, rest)?;
     Ok((Some(register), rest))
 }

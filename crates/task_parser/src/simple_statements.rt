@@ -10,7 +10,7 @@ ghost use Rattle.task_parser.specs.inner.Gives.{Gives};
 use crate::classes::*;
 use crate::expressions::expression;
 use crate::halt::{Halt, Read, discard};
-use crate::next::{expect, expect_titled, is_next, is_of};
+use crate::next::{expect, expect_titled, is_next, is_of, past};
 use crate::operands::{arguments, exprs, indexed, into_name, into_register, worded};
 use crate::source::Source;
 use crate::token::Token;
@@ -28,10 +28,10 @@ fn assigned<'a>(
     ensures { Gives (λ x. ((x.0.0, plain_expr x.0.1), x.1.now)) result (read_assigned class (read_expression source.entry.text.now room) tokens.now) }
 {
     let (variable, rest) = expect(tokens, class)?;
-    let (_, rest) = expect(rest, ASSIGN)?;
+    let rest = past(rest, ASSIGN)?;
     let (value, rest) = expression(source, room, rest)?;
-    let (_, rest) = match expect(rest, SEMICOLON) {
-        Ok(next) => next,
+    let rest = match past(rest, SEMICOLON) {
+        Ok(rest) => rest,
         Err(halt) => {
             discard(value);
             return Err(halt);
@@ -109,7 +109,7 @@ fn forked<'a>(
 {
     let (head, rest) = expect_titled(source, FORK, OPEN_PAREN, tokens)?;
     let (arguments, rest) = arguments(source, room, rest)?;
-    let (_, rest) = expect(rest, CLOSE_PAREN)?;
+    let rest = past(rest, CLOSE_PAREN)?;
     Ok(((head, arguments), rest))
 }
 
@@ -120,8 +120,8 @@ fn forking<'a>(source: Source<'_>, room: u32, tokens: &'a [Token]) -> Read<'a, S
 {
     let (((word, name), arguments), rest) = forked(source, room, tokens)?;
     let (into, rest) = into_name(source, rest)?;
-    let (_, rest) = match expect(rest, SEMICOLON) {
-        Ok(next) => next,
+    let rest = match past(rest, SEMICOLON) {
+        Ok(rest) => rest,
         Err(halt) => {
             discard((name, arguments, into));
             return Err(halt);
@@ -145,8 +145,8 @@ fn joining<'a>(source: Source<'_>, room: u32, tokens: &'a [Token]) -> Read<'a, S
             return Err(halt);
         }
     };
-    let (_, rest) = match expect(rest, SEMICOLON) {
-        Ok(next) => next,
+    let rest = match past(rest, SEMICOLON) {
+        Ok(rest) => rest,
         Err(halt) => {
             discard((thread, into));
             return Err(halt);
@@ -175,9 +175,9 @@ fn settling<'a>(source: Source<'_>, tokens: &'a [Token]) -> Read<'a, Stmt>
 {
     let (word, rest) = expect(tokens, SETTLE)?;
     let (from, rest) = expect(rest, REG)?;
-    let (_, rest) = expect(rest, INTO)?;
+    let rest = past(rest, INTO)?;
     let (into, rest) = expect(rest, NAME)?;
-    let (_, rest) = expect(rest, SEMICOLON)?;
+    let rest = past(rest, SEMICOLON)?;
     let what = What::Settle(source.register(from)?, source.name(into)?);
     let line = word.line;
     Ok((Stmt { what, line }, rest))
@@ -196,8 +196,8 @@ fn reading<'a>(source: Source<'_>, tokens: &'a [Token]) -> Read<'a, Stmt>
             return Err(halt);
         }
     };
-    let (_, rest) = match expect(rest, SEMICOLON) {
-        Ok(next) => next,
+    let rest = match past(rest, SEMICOLON) {
+        Ok(rest) => rest,
         Err(halt) => {
             discard((index, name));
             return Err(halt);
@@ -228,8 +228,8 @@ fn writing<'a>(source: Source<'_>, room: u32, tokens: &'a [Token]) -> Read<'a, S
             return Err(halt);
         }
     };
-    let (_, rest) = match expect(rest, SEMICOLON) {
-        Ok(next) => next,
+    let rest = match past(rest, SEMICOLON) {
+        Ok(rest) => rest,
         Err(halt) => {
             discard((index, name, value));
             return Err(halt);
@@ -247,7 +247,7 @@ fn printing<'a>(source: Source<'_>, room: u32, tokens: &'a [Token]) -> Read<'a, 
 {
     let (word, rest) = expect(tokens, PRINT)?;
     let (values, rest) = exprs(source, room, rest)?;
-    let (_, rest) = expect(rest, SEMICOLON)?;
+    let rest = past(rest, SEMICOLON)?;
     let what = What::Print(values);
     let line = word.line;
     Ok((Stmt { what, line }, rest))

@@ -9,7 +9,7 @@ ghost use Rattle.task_parser.specs.inner.Gives.{Gives, starts, read_allowed, all
 
 use crate::classes::*;
 use crate::halt::{Halt, Read, discard};
-use crate::next::{expect, is_next, is_of};
+use crate::next::{expect, is_next, is_of, past};
 use crate::operands::worded;
 use crate::simple_statements::{
     begins_simple_control, is_simple_control, simple_control, simple_data,
@@ -42,7 +42,7 @@ fn block<'a>(
         return Err(Halt::TooDeep(tokens));
     }
     let (statements, rest) = statements(source, allowed, room - 1, rest)?;
-    let (_, rest) = expect(rest, CLOSE_BRACE)?;
+    let rest = past(rest, CLOSE_BRACE)?;
     Ok((statements, rest))
 }
 
@@ -60,7 +60,7 @@ fn else_block<'a>(
     if !is_next(tokens, ELSE) {
         return Ok((Seq::new(source.alloc), tokens));
     }
-    let (_, rest) = expect(tokens, ELSE)?;
+    let rest = past(tokens, ELSE)?;
     block(source, allowed, room, rest)
 }
 

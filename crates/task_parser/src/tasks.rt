@@ -9,7 +9,7 @@ ghost use Rattle.task_parser.specs.inner.Gives.{Gives};
 
 use crate::classes::*;
 use crate::halt::Read;
-use crate::next::{expect, expect_name, expect_register, expect_titled, is_next, is_of};
+use crate::next::{expect, expect_name, expect_register, expect_titled, is_next, is_of, past};
 use crate::source::Source;
 use crate::statements::{Allowed, statements};
 use crate::token::Token;
@@ -33,7 +33,7 @@ fn param<'a>(source: Source<'_>, tokens: &'a [Token]) -> Read<'a, Param>
 fn next_param<'a>(source: Source<'_>, tokens: &'a [Token]) -> Read<'a, Param>
     ensures { Gives (λ x. (x.0, x.1.now)) result (read_after COMMA (read_param source.entry.text.now) tokens.now) }
 {
-    let (_, rest) = expect(tokens, COMMA)?;
+    let rest = past(tokens, COMMA)?;
     param(source, rest)
 }
 
@@ -81,7 +81,7 @@ fn var_line<'a>(source: Source<'_>, tokens: &'a [Token]) -> Read<'a, VarLine>
 {
     let (word, rest) = expect(tokens, VAR)?;
     let (names, rest) = params(source, rest)?;
-    let (_, rest) = expect(rest, SEMICOLON)?;
+    let rest = past(rest, SEMICOLON)?;
     let line = word.line;
     Ok((VarLine { names, line }, rest))
 }
@@ -107,8 +107,8 @@ fn task_head<'a>(source: Source<'_>, tokens: &'a [Token]) -> Read<'a, ((Token, N
 {
     let (head, rest) = expect_titled(source, TASK, OPEN_PAREN, tokens)?;
     let (params, rest) = param_list(source, rest)?;
-    let (_, rest) = expect(rest, CLOSE_PAREN)?;
-    let (_, rest) = expect(rest, OPEN_BRACE)?;
+    let rest = past(rest, CLOSE_PAREN)?;
+    let rest = past(rest, OPEN_BRACE)?;
     Ok(((head, params), rest))
 }
 
@@ -120,7 +120,7 @@ fn task<'a>(source: Source<'_>, room: u32, tokens: &'a [Token]) -> Read<'a, Task
     let (((word, name), params), rest) = task_head(source, tokens)?;
     let (vars, rest) = var_lines(source, rest)?;
     let (body, rest) = statements(source, Allowed::All, room, rest)?;
-    let (_, rest) = expect(rest, CLOSE_BRACE)?;
+    let rest = past(rest, CLOSE_BRACE)?;
     let line = word.line;
     Ok((
         TaskText {

@@ -3,7 +3,7 @@ use Rattle.std.specs.Prelude.{ℕ, zero, suc, Bool, true, false, cond, List, [],
 use Rattle.task_parser.specs.declared.token.Token.{Token}
 use Rattle.task_parser.specs.inner.Classes.{among}
 use Rattle.task_parser.specs.meaning.Promise.{Stop}
-use Rattle.task_parser.specs.meaning.Words.{first_of, second_of, put_first}
+use Rattle.task_parser.specs.meaning.Words.{put_first}
 
 abbrev pub Reader : Type 0 → Type 0
 Reader A = List Token → Result (A × List Token) Stop
@@ -55,12 +55,16 @@ p ▹ q = read_both p q
 abbrev pub read_the : ℕ → Reader Token
 read_the class = read_one (among (class ∷ []))
 
+-- what is after a token of the class
+abbrev pub read_past : ℕ → List Token → Result (List Token) Stop
+read_past class ts = read_the class ts >>= λ x. Ok x.1
+
 infixl 10 ◌◃◌
 abbrev pub ◌◃◌ : {A : Type 0} → Reader A → ℕ → Reader A
-p ◃ class = read_made first_of (p ▹ read_the class)
+(p ◃ class) ts = p ts >>= λ x. read_past class x.1 >>= λ rest. Ok (x.0, rest)
 
 abbrev pub read_after : {A : Type 0} → ℕ → Reader A → Reader A
-read_after class p = read_made second_of (read_the class ▹ p)
+read_after class p ts = read_past class ts >>= p
 
 abbrev pub read_some : {A : Type 0} → (Token → Bool) → Reader A → Reader (List A)
 read_some first p = read_made put_first (p ▹ repeat first p)

@@ -9,7 +9,7 @@ returns c =
     rw (
       c.in_ok-word.ensures,
       c.in-Ok.ensures,
-      c.in-Ok-expect.ensures,
+      c.in-Ok-past.ensures,
       stmt_At,
       what_Write,
     ) refl
