@@ -33,6 +33,7 @@ pub mod RowsOnce
 pub mod RowsReplayed
 pub mod Sendings
 pub mod Tasks
+pub mod Stops
 pub mod Texts
 pub mod TurnsTaken
 pub mod UnderHeld

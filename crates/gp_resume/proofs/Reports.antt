@@ -5,6 +5,7 @@ use Rattle.std.specs.List.{IsDistinct, AllByRecursion}
 use Rattle.std.specs.Io.KnownBytes.{Appends}
 use Rattle.std.proofs.lemmas.Bool.{cases_eq, ne_eqb}
 use Rattle.gp_base.specs.meaning.Sinks.{AppendsPrefix}
+use Rattle.gp_base.proofs.Written.{prefix_none}
 use Rattle.gp_base.specs.declared.ending.End.{End}
 use Rattle.gp_base.specs.declared.feed.Inputs.{Inputs}
 use Rattle.gp_base.specs.declared.limits.Limits.{Limits}
@@ -354,3 +355,31 @@ module _ (plan : ResumePlan) (log : List ℕ) (logged : Logged) (course : Course
         some = λ rows is_log. all-some rows is_log posted some;
         cause = cause;
       }
+
+-- where the log was refused, or memory was out, before the run went on
+pub drives-unbegun : (T : Type 0) (program : Program) (inputs : Inputs) (limits : Limits) (bytes : List ℕ) (written : Option (List ℕ))
+    (faults : ℕ) (posted : List (ℕ × ℕ)) → posted ≡ [] → (e : ResumeStop) → (e ≡ stop.WriteFault → ⊥)
+    → AnswersLog {T = T} program inputs limits bytes (Err e)
+    → DrivesRest program inputs limits bytes written written faults faults posted (Err e)
+drives-unbegun T program inputs limits bytes written faults posted none e unwritten answers =
+    record {
+      log = same-answer e answers;
+      refused = λ refused. (refl, refl, none);
+      unread = λ no. (refl, refl);
+      report = tt;
+      lines = tt;
+      partly = λ rows is_log. prefix_none written (printed (resumed.lines program inputs limits rows));
+      posts = tt;
+      some = λ rows is_log. none-once posted (length rows) (resumed.count program inputs limits rows) none;
+      cause = record {
+        later = omega arith;
+        failed = λ is. absurd (unwritten (cc is));
+      };
+    }
+  where
+    same-answer : (e : ResumeStop) → AnswersLog {T = T} program inputs limits bytes (Err e)
+        → AnswersLog {T = ℕ × Report} program inputs limits bytes (Err e)
+    same-answer (stop.LogLine number) is = is
+    same-answer (stop.LogFit number) is = is
+    same-answer stop.WriteFault is = is
+    same-answer stop.OutOfMemory is = is

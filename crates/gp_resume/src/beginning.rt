@@ -9,7 +9,7 @@ ghost use Rattle.task_code.specs.Flat.{code_of};
 ghost use Rattle.task_code.specs.Reading.{start_place};
 ghost use Rattle.record_store.specs.Stored.{with_thread, without_threads};
 ghost use Rattle.subthread.specs.Tasks.{program_in};
-ghost use Rattle.gp_resume.specs.inner.Course.{spot_place, IsSuited, Stands};
+ghost use Rattle.gp_resume.specs.inner.Course.{spot_place, IsSuited, StartsAlone, Stands};
 
 use crate::course::{Course, ResumePlan, Spot};
 use gp_base::{At, Nums, ThreadNo};
@@ -77,6 +77,16 @@ fn first_spot(alloc: Global, plan: &ResumePlan) -> Result<Spot, AllocError>
     })
 }
 
+// Where the threads start, of which thread 0 is the only one.
+fn first_spots(alloc: Global, plan: &ResumePlan) -> Result<Vec<Spot>, AllocError>
+    ensures { IfOk result (λ spots. StartsAlone (program_in plan.now.work.now) spots.items) }
+{
+    let spot = first_spot(alloc, plan)?;
+    let mut spots = Vec::new(alloc);
+    spots.push(spot)?;
+    Ok(spots)
+}
+
 /// No subthread has begun. The error is that memory is out.
 pub fn begin(
     alloc: Global,
@@ -91,9 +101,7 @@ pub fn begin(
 {
     let ring = ring_of(alloc, plan, &cells)?;
     let store = store_of(alloc, plan, cells, records)?;
-    let spot = first_spot(alloc, plan)?;
-    let mut spots = Vec::new(alloc);
-    spots.push(spot)?;
+    let spots = first_spots(alloc, plan)?;
     Ok(Course {
         ring,
         spots,

@@ -100,6 +100,14 @@ fn restored(
     Ok((course, logged))
 }
 
+// The records that a run begins with, where its feeds are not needed any more.
+fn records_in(inputs: Inputs) -> Nums
+    ensures { result ≡ inputs.records }
+{
+    let Inputs { records, feeds: _ } = inputs;
+    records
+}
+
 // How many bytes the text had.
 fn text_bytes(logged: Logged) -> u64
     requires natural { (n : ℕ) × (logged.bytes ≡ pos n) }
@@ -167,7 +175,7 @@ pub fn resume_paced<R: Threads + Sync, C: Crew, O: Sink>(
         limits,
         mean_steps,
     };
-    let Inputs { records, feeds: _ } = inputs;
+    let records = records_in(inputs);
     let (course, logged) = restored(alloc, &plan, layout, records, log)?;
     let mut course = course;
     let end = go_on(rt, alloc, &plan, &mut course, crew, out)?;

@@ -12,13 +12,13 @@ ghost use Rattle.subthread.specs.Tasks.{program_in, under_of, body_from};
 ghost use Rattle.retirement_log.specs.meaning.Rows.{Retirement};
 ghost use Rattle.gp_resume.specs.meaning.Fitting.{StandsUnder, left_by, FitsIssue};
 ghost use Rattle.gp_resume.specs.inner.Course.{IsSuited, Stands, Begins};
-ghost use Rattle.gp_resume.specs.inner.Replayed.{FitsBegun};
-ghost use Rattle.gp_resume.specs.inner.RowsRead.{row_in, write_in, with_cells};
+ghost use Rattle.gp_resume.specs.inner.Replayed.{lent_for, IsSetUnder, FitsBegun};
+ghost use Rattle.gp_resume.specs.inner.RowsRead.{row_in, write_in};
 
 use crate::course::{Begun, Course, ResumePlan};
 use crate::row::LogRow;
 use gp_base::{At, LockNo, Nums, RecNo, Seq, ThreadNo};
-use record_store::{Effect, Store, Summed};
+use record_store::{Bundle, Effect, Store, Summed};
 use std::alloc::{AllocError, Global};
 use subthread::{Work, control_of, room_for, set_cells};
 use task_ast::Next;
@@ -38,33 +38,27 @@ fn writes_of(alloc: Global, cells: &Seq<(i64, i64)>) -> Result<Vec<(RecNo, i64)>
     Ok(writes)
 }
 
-// Leaves the values that a row says in cells under these locks, which rise and are at home, and an effect beside them.
-// The error is that memory is out.
-fn leave_data(
+// The cells under these locks, which rise and are at home, go out with the values that a row says. Gives what comes
+// home: the cells, and the values that were overwritten. The error is that memory is out.
+fn lend_set(
     alloc: Global,
     work: &Work,
     store: &mut Store,
     held: &Seq<LockNo>,
     cells: &Seq<(i64, i64)>,
-    effect: Effect,
-) -> Result<(), AllocError>
+) -> Result<(Seq<Bundle>, Seq<(RecNo, i64)>), AllocError>
     requires layout { store.old.under ≡ under_of work.now }
     requires home { All (IsAtHome store.old) held.now }
     requires rising { IsStrictlyIncreasing held.now }
     requires under { All (λ (cell : ℤ × ℤ). StandsUnder (under_of work.now) held.now cell.0) cells.now }
     requires cells { IsTrue (is_sorted nat_cmp (map write_in cells.now)) }
-    requires thread { effect.thread < length store.old.threads }
-    requires child { FitsChild (length store.old.threads) effect.thread effect.child }
-    ensures state { OnOk result (state_of store.new ≡ after (with_cells effect cells.now) (state_of store.old)) }
-    ensures shape { OnOk result (SameShape store.old store.new) }
-    ensures away { OnOk result (store.new.away ≡ store.old.away) }
+    ensures store { OnOk result (store.new ≡ lent_for held.now store.old) }
+    ensures set { IfOk result (λ left. IsSetUnder store.old held.now cells.now left.0 left.1) }
 {
     let writes = writes_of(alloc, cells)?;
     let mut room = room_for(alloc, held.len())?;
     store.lend(held, &mut room);
-    let (bundles, old) = set_cells(alloc, work, room.into_seq(), &writes)?;
-    store.accept_home(bundles, old, effect);
-    Ok(())
+    set_cells(alloc, work, room.into_seq(), &writes)
 }
 
 // What a row says that a subthread left beside cells.
@@ -113,8 +107,10 @@ fn leave_row(
         child,
         cells,
     } = row;
+    let (bundles, old) = lend_set(alloc, work, store, &begun.held, &cells)?;
     let effect = effect_of(alloc, begun.thread, begun.child, regs, child);
-    leave_data(alloc, work, store, &begun.held, &cells, effect)
+    store.accept_home(bundles, old, effect);
+    Ok(())
 }
 
 // The control part of the subthread that begins: what comes next, and where its thread then stands, with its control

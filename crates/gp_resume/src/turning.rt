@@ -8,7 +8,7 @@ ghost use Rattle.subthread.specs.Tasks.{machine_of};
 ghost use Rattle.gp_resume.specs.inner.Course.{spot_place, IsSuited, Gives};
 ghost use Rattle.gp_resume.specs.inner.Flights.{Flown, Flight, StandsPast};
 ghost use Rattle.gp_resume.specs.inner.Waves.{StandsSomewhere, IsFlying, GivesFirst, GivesBeside, IsClosed};
-ghost use Rattle.gp_resume.specs.inner.Turning.{start_with, settled_place, IsIssued};
+ghost use Rattle.gp_resume.specs.inner.Turning.{start_with, settled_place, HasChild, IsIssued};
 
 use crate::course::{Begun, Course, ResumePlan, Spot, Step};
 use gp_base::{At, Pos, ThreadNo};
@@ -65,6 +65,25 @@ fn settled(spot: Spot, sync: &SyncOp, thread: ThreadNo, store: &Store) -> Spot
 }
 
 impl Course {
+    // Adds the child of a fork at its start, of whose registers there are none yet. The error is that memory is out.
+    fn add_child(
+        &mut self,
+        alloc: Global,
+        plan: &ResumePlan,
+        sync: &SyncOp,
+    ) -> Result<(), AllocError>
+        requires few { length self.old.spots.items ≤ MOST_THREADS }
+        ensures { OnOk result (HasChild plan.now.work.now self.old self.new sync.now) }
+    {
+        match start_of(alloc, plan, sync, self.spots.len())? {
+            Some(start) => {
+                self.spots.push(start)?;
+                self.store.reserve_thread(alloc, 0)
+            }
+            None => Ok(()),
+        }
+    }
+
     // A subthread begins, whose turn it was.
     fn issue(
         &mut self,
@@ -82,10 +101,7 @@ impl Course {
         let spot = self.spots[thread.0 as usize].copied(alloc)?;
         let spot = settled(spot, &begins.sync, thread, &self.store);
         let held = self.ring.held_after(alloc, thread, &SyncOp::Start)?;
-        if let Some(start) = start_of(alloc, plan, &begins.sync, self.spots.len())? {
-            self.spots.push(start)?;
-            self.store.reserve_thread(alloc, 0)?;
-        }
+        self.add_child(alloc, plan, &begins.sync)?;
         let pos = Pos(self.issued);
         self.issued += 1;
         Ok(Begun {

@@ -28,6 +28,7 @@ use gp_base::{Lines, Pos, Seq, Sink};
 use record_store::{Given, Store};
 use restart_log::printed;
 use std::alloc::{AllocError, Global};
+use std::mem;
 use std::thread::Threads;
 use subthread::{Done, Task, lend, room_for};
 
@@ -181,7 +182,7 @@ fn keep(runs: Vec<Option<Done>>, at: usize, done: Done) -> Vec<Option<Done>>
     ensures { result.items ≡ slice_set runs.items at (Some done) }
 {
     let mut runs = runs;
-    runs[at] = Some(done);
+    drop(mem::replace(&mut runs[at], Some(done)));
     runs
 }
 
@@ -361,6 +362,5 @@ pub fn go_wave<R: Threads + Sync, C: Crew, O: Sink>(
     }
     let places = send_beside(rt, alloc, plan, course, crew, threads)?;
     let runs = collect(rt, crew, first, places)?;
-    bring_home(alloc, plan, course, out, runs)?;
-    Ok(())
+    bring_home(alloc, plan, course, out, runs)
 }

@@ -1,5 +1,5 @@
 -- How a course stands to the plain run that goes on from rows.
-use Rattle.std.specs.Prelude.{◌≡◌, ℕ, ◌≤◌, ◌<◌, List, length, map, Some, slice_get, slice_set}
+use Rattle.std.specs.Prelude.{◌≡◌, ℕ, ◌≤◌, ◌<◌, List, [], ◌∷◌, length, map, Some, slice_get, slice_set}
 use Rattle.gp_base.specs.declared.ending.End.{End}
 use Rattle.task_ast.specs.meaning.Names.{records_of, locks_of, cells_in}
 use Rattle.task_ast.specs.meaning.State.{State}
@@ -11,12 +11,13 @@ use Rattle.task_ast.specs.meaning.Repeat.{Goes, Ends}
 use Rattle.task_ast.specs.laws.Ends.{IsWhole}
 use Rattle.task_ast.specs.laws.Following.{InStep}
 use Rattle.task_ast.specs.laws.Runs.{plain_for, IsInside}
-use Rattle.task_ast.specs.meaning.Plain.{Subthread}
+use Rattle.task_ast.specs.meaning.Tree.{Program}
+use Rattle.task_ast.specs.meaning.Plain.{Subthread, main_number}
 use Rattle.task_ast.specs.meaning.Run.{Run}
 use Rattle.task_ast.specs.Plain.{Plain, PlainOf, tree_machine, move}
 use Rattle.task_ast.specs.Position.{from_in, body_by}
 use Rattle.lock_checker.specs.Soundness.{LocksStand}
-use Rattle.task_code.specs.Reading.{Place}
+use Rattle.task_code.specs.Reading.{Place, start_place}
 use Rattle.task_code.specs.Relation.{Rests}
 use Rattle.record_store.specs.Stored.{Stored, state_of, IsAllHome}
 use Rattle.subthread.specs.Tasks.{Suits, machine_of, program_in as program_of}
@@ -34,6 +35,12 @@ spot_place spot = record { at = spot.at; ctl = spot.ctl; me = spot.me }
 -- the plain run on code that a course is
 abbrev pub run_in : Course → PlainOf Place
 run_in course = record { table = course.ring.table; points = map spot_place course.spots.items; state = state_of course.store }
+
+-- one spot, at which `main` starts as thread 0
+pub record StartsAlone (program : Program) (spots : List Spot) : Type 0 where
+  pub spot : Spot
+  pub alone : spots ≡ spot ∷ []
+  pub starts : spot_place spot ≡ start_place program (main_number program) 0 []
 
 -- work, layout, inputs and limits suit one another
 abbrev pub IsSuited : ResumePlan → Type 0

@@ -32,6 +32,14 @@ abbrev pub threads_with : SyncOp → List (List ℤ) → List (List ℤ)
 threads_with (sync.Fork task arguments) threads = threads ++ [] ∷ []
 threads_with _ threads = threads
 
+-- the child of a fork was added, at its start; else nothing was
+pub record HasChild (work : Work) (before now : Course) (op : SyncOp) : Type 0 where
+  pub ring : now.ring ≡ before.ring
+  pub points : map spot_place now.spots.items
+      ≡ points_with (machine_of work) op (length before.spots.items) (map spot_place before.spots.items)
+  pub store : now.store ≡ record before.store { threads = threads_with op before.store.threads }
+  pub issued : now.issued ≡ before.issued
+
 -- a subthread of this thread begins, whose turn it was
 pub record IsIssued (work : Work) (before now : Course) (t : ℕ) (begins : Next) (child : Option ℕ) (begun : Begun) : Type 0 where
   pub pos : begun.pos ≡ before.issued

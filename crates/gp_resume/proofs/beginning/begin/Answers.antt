@@ -1,4 +1,4 @@
-use Rattle.std.proofs.Common.{◌∙◌, ◌++◌, [], ◌∷◌, ap, length, refl}
+use Rattle.std.proofs.Common.{◌∙◌, ap, length, refl}
 use Rattle.task_ast.specs.meaning.Names.{registers_of}
 use Rattle.task_ast.specs.meaning.Plain.{main_task}
 use Rattle.record_store.specs.Stored.{with_thread, without_threads}
@@ -8,8 +8,8 @@ use Rattle.gp_resume.proofs.beginning.begin.Goals as goal
 
 pub returns : goal.returns
 returns c =
-    stands-opening c.args.plan.now c.requires.suits c.args.cells c.requires.layout _ c.in_ok-spot.spot c.in_ok-ring.ensures
-    (c.in_ok-push.ensures.items ∙ ap (λ items. items ++ c.in_ok-spot.spot ∷ []) c.new-spots.ensures.items) c.in_ok-spot.ensures
+    let first = c.in_ok-spots.ensures in
+    stands-opening c.args.plan.now c.requires.suits c.args.cells c.requires.layout _ first.spot c.in_ok-ring.ensures first.alone first.starts
     (c.in_ok-store.ensures
     ∙ ap (λ records. with_thread (length (registers_of (main_task (program_in c.args.plan.now.work.now))))
     (without_threads records c.args.cells.under)) c.requires.records)

@@ -1,11 +1,13 @@
 use Rattle.std.proofs.Common.{◌≡◌, sym, ap, ◌∙◌, subst, arith, []}
+use Rattle.std.proofs.lemmas.Result.{err_from_is_err_and}
 use Rattle.task_ast.specs.Plain.{Plain}
 use Rattle.gp_resume.specs.declared.course.Begun.{Begun}
 use Rattle.gp_resume.specs.inner.Course.{Stands, Ended, Gives}
 use Rattle.gp_resume.specs.inner.Flights.{Flown, Joins}
 use Rattle.gp_resume.specs.inner.Waves.{GivesFirst, IsClosed}
 use Rattle.gp_resume.proofs.Besides.{past-threads}
-use Rattle.gp_resume.proofs.Onward.{went-first, went-part, unposted, went-then, stops-part, stops-some, left-falls, went-ends, ends-written, ends-posted}
+use Rattle.gp_resume.proofs.Onward.{went-first, went-part, went-some, unposted, went-then, stops-part, stops-some, left-falls, went-ends, ends-written, ends-posted}
+use Rattle.gp_resume.proofs.Stops.{memory-cause, memory-told}
 use Rattle.gp_resume.proofs.drive.go_on.Goals as goal
 use Rattle.gp_resume.proofs.drive.go_on.Goals.{In-Goes, In-Ends}
 
@@ -50,6 +52,11 @@ returns-in_err-end-clause-partly g c x stands =
     went-part c.args.plan.now x (g.O.Sink.written c.args.out.now) (g.O.Sink.written c.going.out) (g.C.Crew.posted c.going.crew)
     c.going.course (c.going.invariant.went x stands)
 
+pub returns-in_err-end-clause-some : goal.returns-in_err-end-clause-some
+returns-in_err-end-clause-some g c x stands =
+    went-some c.args.plan.now x (g.O.Sink.written c.args.out.now) (g.O.Sink.written c.going.out) (g.C.Crew.posted c.going.crew)
+    c.going.course (c.going.invariant.went x stands)
+
 pub returns-in-Ends-clause-end : goal.returns-in-Ends-clause-end
 returns-in-Ends-clause-end g c x stands =
     let at = (goal.at.returns-in-Ends-clause-end g c).In-Ends in
@@ -72,6 +79,11 @@ returns-in-Ends-clause-posts g c x stands =
     let at = (goal.at.returns-in-Ends-clause-posts g c).In-Ends in
     ends-posted c.args.plan.now x (g.O.Sink.written c.args.out.now) (g.O.Sink.written c.going.out) (g.C.Crew.posted c.going.crew)
     c.going.course (c.going.invariant.went x stands) c.in-Ends.end c.next.new.self (ended g at x stands)
+
+pub returns-in-Ends-clause-some : goal.returns-in-Ends-clause-some
+returns-in-Ends-clause-some g c x stands =
+    went-some c.args.plan.now x (g.O.Sink.written c.args.out.now) (g.O.Sink.written c.going.out) (g.C.Crew.posted c.going.crew)
+    c.going.course (c.going.invariant.went x stands)
 
 pub go_wave-requires-clause-begins : goal.go_wave-requires-clause-begins
 go_wave-requires-clause-begins g c lifetimes within =
@@ -134,3 +146,11 @@ returns-in_err-go_wave-in-Goes-clause-some g c x stands =
     let went = c.going.invariant.went x stands in
     stops-some c.args.plan.now x (g.O.Sink.written c.args.out.now) (g.O.Sink.written c.going.out) (g.C.Crew.posted c.going.crew)
     c.going.course went (g.C.Crew.posted c.go_wave.new.crew) (c.go_wave.ensures.some went.now next.0 next.1 next.2)
+
+pub returns-in_err-end-clause-cause : goal.returns-in_err-end-clause-cause
+returns-in_err-end-clause-cause g c =
+    memory-cause c.from_residual.result (err_from_is_err_and c.from_residual.result c.from_residual.ensures.1) _ _ c.going.invariant.later
+
+pub returns-in_err-end-clause-told : goal.returns-in_err-end-clause-told
+returns-in_err-end-clause-told g c =
+    memory-told c.from_residual.result (err_from_is_err_and c.from_residual.result c.from_residual.ensures.1)

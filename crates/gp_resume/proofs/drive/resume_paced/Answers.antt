@@ -1,11 +1,13 @@
-use Rattle.std.proofs.Common.{rules, List, length, subst, Ok}
+use Rattle.std.proofs.Common.{Ok, Err, sym, ap, ◌∙◌, subst, arith}
 use Rattle.std.proofs.lemmas.Result.{err_from_is_err_and}
 use Rattle.subthread.specs.Tasks.{program_in}
+use Rattle.gp_resume.specs.declared.course.Course.{Course}
 use Rattle.gp_resume.specs.declared.course.ResumePlan.{ResumePlan}
-use Rattle.gp_resume.specs.meaning.Resumed.{count}
-use Rattle.gp_resume.specs.Resuming.{IsRefused, HasResumeCause, DrivesRest}
+use Rattle.gp_resume.specs.declared.log.Logged.{Logged}
+use Rattle.gp_resume.specs.Resuming.{DrivesRest}
 use Rattle.gp_resume.specs.inner.Going.{Replays}
-use Rattle.gp_resume.proofs.Reports.{none-once, log-bytes, drives-to-end, drives-to-stop}
+use Rattle.gp_resume.proofs.Reports.{log-bytes, drives-unbegun, drives-to-end, drives-to-stop}
+use Rattle.gp_resume.proofs.Stops.{stops-later, stops-told}
 use Rattle.gp_resume.proofs.drive.resume_paced.Goals as goal
 use Rattle.gp_resume.proofs.drive.resume_paced.Goals.{In_ok-course}
 
@@ -24,27 +26,27 @@ replays g c = c.in_ok-course.ensures.replays
 
 pub returns-in_err-course : goal.returns-in_err-course
 returns-in_err-course g c =
-    record {
-      log = search rules;
-      refused = search rules;
-      unread = search rules;
-      report = search rules;
-      lines = search rules;
-      partly = search rules;
-      posts = search rules;
-      some = λ rows is_log.
-          none-once (g.C.Crew.posted c.args.crew.now) (length rows)
-          (count (program_in c.args.paced.work.now) c.args.opening.inputs c.args.opening.limits rows) c.requires.unposted.none_posted;
-      cause = search rules;
-    }
+    let result = c.from_residual.result in
+    let stopped = err_from_is_err_and result c.from_residual.ensures.1 in
+    subst (DrivesRest (program_in c.args.paced.work.now) c.args.opening.inputs c.args.opening.limits c.args.log.now
+    (g.O.Sink.written c.args.out.now) (g.O.Sink.written c.args.out.now) (g.O.Sink.faults c.args.out.now) (g.O.Sink.faults c.args.out.now)
+    (g.C.Crew.posted c.args.crew.now)) (sym (stopped.1 ∙ ap Err stopped.2))
+    (subst (λ inputs. DrivesRest (program_in c.args.paced.work.now) inputs c.args.opening.limits c.args.log.now
+    (g.O.Sink.written c.args.out.now) (g.O.Sink.written c.args.out.now) (g.O.Sink.faults c.args.out.now) (g.O.Sink.faults c.args.out.now)
+    (g.C.Crew.posted c.args.crew.now) (Err c.in_err-course.field-0.0)) c.of.ensures
+    (drives-unbegun (Course × Logged) (program_in c.args.paced.work.now) c.of.result.value c.args.opening.limits c.args.log.now
+    (g.O.Sink.written c.args.out.now) (g.O.Sink.faults c.args.out.now) (g.C.Crew.posted c.args.crew.now) c.requires.unposted.none_posted
+    c.in_err-course.field-0.0 c.in_err-course.ensures.unwritten c.in_err-course.ensures.answer))
 
 pub returns-in_err-end : goal.returns-in_err-end
 returns-in_err-end g c =
     let at = (goal.at.returns-in_err-end g c).In_ok-course in
     let result = c.from_residual-in_err-end.result in
     let stopped = err_from_is_err_and result c.from_residual-in_err-end.ensures.1 in
-    let told : ¬ IsRefused result = search rules in
-    let cause : HasResumeCause (g.O.Sink.faults c.args.out.now) (g.O.Sink.faults c.go_on.new.out) result = search rules in
+    let is = stopped.1 ∙ ap Err stopped.2 in
+    let told = stops-told c.go_on.result result c.in_err-end.field-0.0 c.in_err-end.was is c.go_on.ensures.told in
+    let cause = stops-later c.go_on.result result c.in_err-end.field-0.0 c.in_err-end.was is (g.O.Sink.faults c.args.out.now) _ _ (omega arith)
+    c.go_on.ensures.cause in
     subst (λ inputs. DrivesRest (program_in c.args.paced.work.now) inputs c.args.opening.limits c.args.log.now
     (g.O.Sink.written c.args.out.now) (g.O.Sink.written c.go_on.new.out) (g.O.Sink.faults c.args.out.now) (g.O.Sink.faults c.go_on.new.out)
     (g.C.Crew.posted c.go_on.new.crew) result) c.of.ensures

@@ -1,8 +1,10 @@
-use Rattle.std.proofs.Common.{◌≡◌, ℕ, List, [], ◌∷◌, length, None, refl, sym, ap, ◌∙◌, subst, arith}
+use Rattle.std.proofs.Common.{◌≡◌, ℕ, List, [], ◌∷◌, length, None, Err, refl, sym, ap, ◌∙◌, subst, arith}
+use Rattle.std.proofs.lemmas.Result.{err_from_is_err_and}
 use Rattle.task_ast.specs.Plain.{Plain}
 use Rattle.gp_resume.specs.inner.Flights.{Flown, Flight}
 use Rattle.gp_resume.specs.inner.Waves.{tasks_of, AreRunsOf, Homing}
 use Rattle.gp_resume.proofs.Homings.{homing-last, homing-part, homing-next, Coming, coming, coming-may, coming-then, coming-stops}
+use Rattle.gp_resume.proofs.Stops.{stops-later, stops-told}
 use Rattle.gp_resume.proofs.waves.bring_home.Goals as goal
 use Rattle.gp_resume.proofs.waves.bring_home.Goals.{In-Some-run}
 
@@ -73,3 +75,15 @@ pub returns-clause-partly : goal.returns-clause-partly
 returns-clause-partly g c threads x y fs flight are =
     homing-part c.args._plan.now c.requires.suits threads y fs (g.O.Sink.written c.args.out.now) (g.O.Sink.written c.loop-run.out)
     c.loop-run.run-iterator.rest.items c.loop-run.course (c.loop-run.invariant.homing threads x y fs flight are)
+
+pub returns-in_err-bring-in-Some-run-clause-cause : goal.returns-in_err-bring-in-Some-run-clause-cause
+returns-in_err-bring-in-Some-run-clause-cause g c =
+    let stopped = err_from_is_err_and c.from_residual.result c.from_residual.ensures.1 in
+    stops-later c.bring.result c.from_residual.result c.in_err-bring-in-Some-run.field-0.0 c.in_err-bring-in-Some-run.was
+    (stopped.1 ∙ ap Err stopped.2) _ _ _ c.loop-run.invariant.later c.bring.ensures.cause
+
+pub returns-in_err-bring-in-Some-run-clause-told : goal.returns-in_err-bring-in-Some-run-clause-told
+returns-in_err-bring-in-Some-run-clause-told g c =
+    let stopped = err_from_is_err_and c.from_residual.result c.from_residual.ensures.1 in
+    stops-told c.bring.result c.from_residual.result c.in_err-bring-in-Some-run.field-0.0 c.in_err-bring-in-Some-run.was
+    (stopped.1 ∙ ap Err stopped.2) c.bring.ensures.told

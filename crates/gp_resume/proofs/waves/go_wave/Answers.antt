@@ -1,5 +1,5 @@
-use Rattle.std.proofs.Common.{◌≡◌, ◌≤◌, [], sym, ap, ◌∙◌, subst}
-use Rattle.std.proofs.lemmas.Result.{on_ok_weaker}
+use Rattle.std.proofs.Common.{◌≡◌, ◌≤◌, [], sym, ap, ◌∙◌, subst, append-nil, arith}
+use Rattle.std.proofs.lemmas.Result.{on_ok_weaker, err_from_is_err_and}
 use Rattle.gp_base.proofs.Written.{prefix_none}
 use Rattle.task_ast.specs.Plain.{Plain}
 use Rattle.token_order.specs.View.{Roomy}
@@ -10,6 +10,7 @@ use Rattle.gp_resume.specs.inner.Going.{rest}
 use Rattle.gp_resume.specs.inner.Flights.{Flown, Joins}
 use Rattle.gp_resume.specs.inner.Waves.{ArePlaced, IsOne, Sent, IsSent}
 use Rattle.gp_resume.proofs.Sendings.{sent-first, sent-some, sent-one}
+use Rattle.gp_resume.proofs.Stops.{memory-cause, memory-told, on-ok-both}
 use Rattle.gp_resume.proofs.WavesGone.{wave-placed, wave-coming, wave-partly, wave-went}
 use Rattle.gp_resume.proofs.waves.go_wave.Goals as goal
 use Rattle.gp_resume.proofs.waves.go_wave.Goals.{In_ok-steps}
@@ -46,6 +47,14 @@ one g c =
     sent-one (g.C.Crew.out c.args.crew.now) (g.C.Crew.out c.send.new.crew) _ c.requires.none_out
     (c.in_ok-steps.ensures.out c.args.leader.threads b.before [] b.flown b.is b.joins)
 
+pub returns-in_err-steps-clause-partly : goal.returns-in_err-steps-clause-partly
+returns-in_err-steps-clause-partly g c x f is joins =
+    prefix_none (g.O.Sink.written c.args.out.now) (printed (lines_of (rest c.args.plan.now x)))
+
+pub returns-in_err-steps-clause-some : goal.returns-in_err-steps-clause-some
+returns-in_err-steps-clause-some g c x f is joins =
+    (0, omega arith, c.in_err-steps.ensures.posted_kept ∙ sym (append-nil (g.C.Crew.posted c.args.crew.now)))
+
 pub go_alone-requires-clause-sent : goal.go_alone-requires-clause-sent
 go_alone-requires-clause-sent g c lifetimes within =
     (c.args.leader.threads, first-alone g ((goal.at.go_alone-requires-clause-sent g c).In_ok-steps))
@@ -79,6 +88,10 @@ send_beside-requires-clause-one g c lifetimes within = one g ((goal.at.send_besi
 
 pub send_beside-requires-clause-closed : goal.send_beside-requires-clause-closed
 send_beside-requires-clause-closed g c lifetimes within = ap (λ (r : Roomy). r.cleared) c.send.ensures.ring ∙ c.requires.closed
+
+pub returns-in_err-places-clause-partly : goal.returns-in_err-places-clause-partly
+returns-in_err-places-clause-partly g c x f is joins =
+    prefix_none (g.O.Sink.written c.args.out.now) (printed (lines_of (rest c.args.plan.now x)))
 
 pub returns-in_err-places-clause-some : goal.returns-in_err-places-clause-some
 returns-in_err-places-clause-some g c x f is joins =
@@ -115,32 +128,22 @@ bring_home-requires-clause-coming g c =
     (g.C.Crew.work c.send_beside.new.crew) c.in_ok-runs.runs.items
     (c.send_beside.ensures.work ∙ (c.send.ensures.work ∙ c.requires.work)) c.in_ok-runs.ensures.runs
 
-pub returns-in_err-bring_home-clause-partly : goal.returns-in_err-bring_home-clause-partly
-returns-in_err-bring_home-clause-partly g c x f is joins =
-    let at = (goal.at.returns-in_err-bring_home-clause-partly g c).In_ok-steps in
-    wave-partly c.args.plan.now c.args.leader.threads x (g.C.Crew.posted c.args.crew.now) (g.C.Crew.posted c.send_beside.new.crew)
-    (g.C.Crew.out c.send_beside.new.crew) c.send_beside.new.course
-    (c.in_ok-places.ensures.sent x (g.C.Crew.posted c.args.crew.now) (first g at x f is joins))
-    (g.C.Crew.work c.send_beside.new.crew) c.in_ok-runs.runs.items
-    (c.send_beside.ensures.work ∙ (c.send.ensures.work ∙ c.requires.work)) c.in_ok-runs.ensures.runs
-    (g.O.Sink.written c.args.out.now) (g.O.Sink.written c.bring_home.new.out) c.bring_home.ensures.partly
-
-pub returns-in_err-bring_home-clause-some : goal.returns-in_err-bring_home-clause-some
-returns-in_err-bring_home-clause-some g c x f is joins =
-    let at = (goal.at.returns-in_err-bring_home-clause-some g c).In_ok-steps in
-    let some = c.send_beside.ensures.some x (g.C.Crew.posted c.args.crew.now) (first g at x f is joins) in
-    (some.0, some.1, c.collect.ensures.posted ∙ some.2)
-
 pub returns-clause-went : goal.returns-clause-went
-returns-clause-went g c x f is joins =
+returns-clause-went g c =
     let at = (goal.at.returns-clause-went g c).In_ok-steps in
+    on-ok-both c.bring_home.result
+    (λ stands lines x f is joins.
     wave-went c.args.plan.now c.args.leader.threads x (g.C.Crew.posted c.args.crew.now) (g.C.Crew.posted c.send_beside.new.crew)
     (g.C.Crew.out c.send_beside.new.crew) c.send_beside.new.course
     (c.in_ok-places.ensures.sent x (g.C.Crew.posted c.args.crew.now) (first g at x f is joins))
     (g.C.Crew.work c.send_beside.new.crew) c.in_ok-runs.runs.items
     (c.send_beside.ensures.work ∙ (c.send.ensures.work ∙ c.requires.work)) c.in_ok-runs.ensures.runs
     (g.O.Sink.written c.args.out.now) (g.O.Sink.written c.bring_home.new.out) (g.C.Crew.posted c.collect.new.crew) c.bring_home.new.course
-    c.collect.ensures.posted c.in_ok-bring_home.ensures.stands c.in_ok-bring_home.ensures.lines
+    c.collect.ensures.posted stands lines)
+    c.bring_home.ensures.stands c.bring_home.ensures.lines
+
+pub returns-clause-none_left : goal.returns-clause-none_left
+returns-clause-none_left g c = on_ok_weaker c.bring_home.result (λ stands. c.in_ok-runs.ensures.none_left) c.bring_home.ensures.stands
 
 pub returns-clause-partly : goal.returns-clause-partly
 returns-clause-partly g c x f is joins =
@@ -157,3 +160,33 @@ returns-clause-some g c x f is joins =
     let at = (goal.at.returns-clause-some g c).In_ok-steps in
     let some = c.send_beside.ensures.some x (g.C.Crew.posted c.args.crew.now) (first g at x f is joins) in
     (some.0, some.1, c.collect.ensures.posted ∙ some.2)
+
+pub returns-in_err-steps-clause-cause : goal.returns-in_err-steps-clause-cause
+returns-in_err-steps-clause-cause g c =
+    memory-cause c.from_residual.result
+    (err_from_is_err_and c.from_residual.result c.from_residual.ensures.1) _ _ (omega arith)
+
+pub returns-in_err-steps-clause-told : goal.returns-in_err-steps-clause-told
+returns-in_err-steps-clause-told g c =
+    memory-told c.from_residual.result
+    (err_from_is_err_and c.from_residual.result c.from_residual.ensures.1)
+
+pub returns-in_err-places-clause-cause : goal.returns-in_err-places-clause-cause
+returns-in_err-places-clause-cause g c =
+    memory-cause c.from_residual-in_err-places.result
+    (err_from_is_err_and c.from_residual-in_err-places.result c.from_residual-in_err-places.ensures.1) _ _ (omega arith)
+
+pub returns-in_err-places-clause-told : goal.returns-in_err-places-clause-told
+returns-in_err-places-clause-told g c =
+    memory-told c.from_residual-in_err-places.result
+    (err_from_is_err_and c.from_residual-in_err-places.result c.from_residual-in_err-places.ensures.1)
+
+pub returns-in_err-runs-clause-cause : goal.returns-in_err-runs-clause-cause
+returns-in_err-runs-clause-cause g c =
+    memory-cause c.from_residual-in_err-runs.result
+    (err_from_is_err_and c.from_residual-in_err-runs.result c.from_residual-in_err-runs.ensures.1) _ _ (omega arith)
+
+pub returns-in_err-runs-clause-told : goal.returns-in_err-runs-clause-told
+returns-in_err-runs-clause-told g c =
+    memory-told c.from_residual-in_err-runs.result
+    (err_from_is_err_and c.from_residual-in_err-runs.result c.from_residual-in_err-runs.ensures.1)

@@ -1,4 +1,5 @@
 use Rattle.std.proofs.Common.{◌++◌, ◌∷◌, [], ap, ◌∙◌}
+use Rattle.crew.specs.Out.{pair_of}
 use Rattle.gp_resume.proofs.Sendings.{send-numbered, send-rising, send-home, send-task, send-fits, send-flight}
 use Rattle.gp_resume.proofs.waves.send.Goals as goal
 
@@ -22,6 +23,13 @@ hand-requires-clause-fits g c lifetimes within =
     let j = c.requires.joins in
     rw (c.requires.work, c.in_ok-task.ensures.task)
     (send-fits c.args.plan.now c.requires.suits j.threads j.before j.flights j.flown c.args.course.now c.args.begun j.is j.joins)
+
+pub hand-requires-clause-fresh : goal.hand-requires-clause-fresh
+hand-requires-clause-fresh g c lifetimes within = rw c.in_ok-task.ensures.task c.requires.fresh
+
+pub returns-clause-posted : goal.returns-clause-posted
+returns-clause-posted g c =
+    c.in_ok-hand.ensures.posted ∙ ap (λ task. g.C.Crew.posted c.args.crew.now ++ pair_of task ∷ []) c.in_ok-task.ensures.task
 
 pub returns-clause-flight : goal.returns-clause-flight
 returns-clause-flight g c threads x fs f is joins =

@@ -1,20 +1,33 @@
-use Rattle.std.proofs.Common.{◌≡◌, ℕ, ℤ, true, false, List, length, map, sym, ap, ◌∙◌, subst}
-use Rattle.std.specs.Prelude.{All}
+use Rattle.std.proofs.Common.{◌≡◌, ℕ, ℤ, true, List, length, map, Result, Ok, Err, sym, ap, ◌∙◌, subst}
+use Rattle.std.specs.Prelude.{All, IfOk, OnOk}
+use Rattle.std.specs.Ordering.{nat_cmp}
+use Rattle.std.specs.FinMap.{is_sorted}
 use Rattle.std.specs.List.Sorted.{IsStrictlyIncreasing}
-use Rattle.task_ast.specs.meaning.Effect.{after}
 use Rattle.task_ast.specs.meaning.Under.{under_lock, is_under}
 use Rattle.record_store.specs.declared.effect.Effect as left
 use Rattle.record_store.specs.declared.given.Bundle.{Bundle}
 use Rattle.record_store.specs.Given.{bundle_of}
-use Rattle.record_store.specs.Lent.{marked, lock_in, put_back, new_write, whole_effect}
+use Rattle.record_store.specs.Lent.{lock_in, put_back, new_write, whole_effect}
 use Rattle.record_store.specs.Stored.{Stored, state_of, IsAtHome}
 use Rattle.record_store.proofs.Homing.{distinct-rising}
 use Rattle.subthread.proofs.HeldLocks.{bundle_locks, bundle_sizes}
 use Rattle.subthread.proofs.Lendings.{came-locks, may-come, home-again}
 use Rattle.gp_resume.specs.meaning.Fitting.{StandsUnder}
+use Rattle.gp_resume.specs.inner.Replayed.{IsSetUnder}
 use Rattle.gp_resume.specs.inner.RowsRead.{write_in, with_cells}
 use Rattle.gp_resume.proofs.Replays.{all-under}
-use Rattle.gp_resume.proofs.replay.leave_data.Goals as goal
+use Rattle.gp_resume.proofs.replay.lend_set.Goals as goal
+
+-- what holds is so where there is a value
+on-each : {T E P : Type 0} (r : Result T E) → P → OnOk r P
+on-each (Ok value) holds = holds
+on-each (Err stop) holds = tt
+
+-- what holds of a value leads to what follows from it
+if-all : {T E : Type 0} {P Q R S Z : T → Type 0} (r : Result T E) → ((value : T) → P value → Q value → R value → S value → Z value)
+    → IfOk r P → IfOk r Q → IfOk r R → IfOk r S → IfOk r Z
+if-all (Ok value) leads p q r s = leads value p q r s
+if-all (Err stop) leads p q r s = tt
 
 -- cells that a store lends for locks, with this layout
 module _ (store : Stored) (under : List (List ℕ)) (layout : store.under ≡ under) (held : List ℕ) (lent : List Bundle)
@@ -57,6 +70,16 @@ module _ (store : Stored) (under : List (List ℕ)) (layout : store.under ≡ un
           prints = effect.prints;
         }
 
+    is-set : (cells : List (ℤ × ℤ)) (writes : List (ℕ × ℤ)) → writes ≡ map write_in cells → map (new_write under bundles) old ≡ writes
+        → is_sorted nat_cmp old ≡ true → All (λ w. is_under under (map lock_in lent) w.0 ≡ true) old
+        → IsSetUnder store held cells bundles old
+    is-set cells writes are written rising within =
+        record {
+          comes = may-come store held home bundles old came-as rising (within-locks within);
+          says = λ effect. effect-is effect cells writes written are;
+          home = home-again store held home bundles (came-locks store held home bundles old came-as);
+        }
+
 pub lend-requires-clause-distinct : goal.lend-requires-clause-distinct
 lend-requires-clause-distinct c = distinct-rising c.args.held.now c.requires.rising
 
@@ -75,38 +98,14 @@ set_cells-requires-clause-under c =
     writes-under c.args.store.now _ c.requires.layout c.args.held.now c.into_seq.result (c.into_seq.ensures ∙ c.lend.ensures.bundles)
     c.args.cells.now c.deref.result.now (c.deref.ensures.value ∙ c.in_ok-writes.ensures) c.requires.under
 
-pub accept_home-requires-clause-comes : goal.accept_home-requires-clause-comes
-accept_home-requires-clause-comes c =
-    let lent = c.into_seq.ensures ∙ c.lend.ensures.bundles in
-    let back = c.in_ok-bundles.ensures in
-    rw c.lend.ensures.store
-    (may-come c.args.store.now c.args.held.now c.requires.home c.in_ok-bundles.bundles c.in_ok-bundles.old
-    (came-as c.args.store.now _ c.requires.layout c.args.held.now c.into_seq.result lent c.requires.home c.in_ok-bundles.bundles
-    c.in_ok-bundles.old back.came)
-    back.rising
-    (within-locks c.args.store.now _ c.requires.layout c.args.held.now c.into_seq.result lent c.requires.home c.in_ok-bundles.bundles
-    c.in_ok-bundles.old back.came back.within))
+pub returns-clause-store : goal.returns-clause-store
+returns-clause-store c = on-each c.set_cells.result c.lend.ensures.store
 
-pub returns-clause-state : goal.returns-clause-state
-returns-clause-state c =
-    let lent = c.into_seq.ensures ∙ c.lend.ensures.bundles in
-    let back = c.in_ok-bundles.ensures in
-    c.accept_home.ensures.state
-    ∙ (λ i. after (whole_effect (c.lend.ensures.store i).under c.in_ok-bundles.bundles c.in_ok-bundles.old c.args.effect)
-    (state_of (c.lend.ensures.store i)))
-    ∙ ap (λ e. after e (state_of c.args.store.now))
-    (effect-is c.args.store.now _ c.requires.layout c.args.held.now c.into_seq.result lent c.requires.home c.in_ok-bundles.bundles
-    c.in_ok-bundles.old back.came c.args.effect c.args.cells.now c.deref.result.now back.written
-    (c.deref.ensures.value ∙ c.in_ok-writes.ensures))
-
-pub returns-clause-away : goal.returns-clause-away
-returns-clause-away c =
-    let lent = c.into_seq.ensures ∙ c.lend.ensures.bundles in
-    let back = c.in_ok-bundles.ensures in
-    let came =
-    came-as c.args.store.now _ c.requires.layout c.args.held.now c.into_seq.result lent c.requires.home c.in_ok-bundles.bundles
-    c.in_ok-bundles.old back.came in
-    c.accept_home.ensures.away
-    ∙ ap (λ (s : Stored). marked (map lock_in c.in_ok-bundles.bundles) false s.away) c.lend.ensures.store
-    ∙ home-again c.args.store.now c.args.held.now c.requires.home c.in_ok-bundles.bundles
-    (came-locks c.args.store.now c.args.held.now c.requires.home c.in_ok-bundles.bundles c.in_ok-bundles.old came)
+pub returns-clause-set : goal.returns-clause-set
+returns-clause-set c =
+    let back = c.set_cells.ensures in
+    if-all c.set_cells.result
+    (λ left came written rising within. is-set c.args.store.now _ c.requires.layout c.args.held.now c.into_seq.result
+    (c.into_seq.ensures ∙ c.lend.ensures.bundles) c.requires.home left.0 left.1 came c.args.cells.now c.deref.result.now
+    (c.deref.ensures.value ∙ c.in_ok-writes.ensures) written rising within)
+    back.came back.written back.rising back.within
