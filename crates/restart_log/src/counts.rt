@@ -2,7 +2,7 @@
 ghost use Rattle.std.specs.Prelude.{◌≡◌, ◌++◌, OnOk};
 ghost use Rattle.restart_log.specs.meaning.Tail.{count_line, redone, counts_section};
 
-use crate::lines::push_number;
+use crate::lines::push_numbered_line;
 use gp_base::Restart;
 use std::alloc::AllocError;
 
@@ -11,9 +11,7 @@ fn push_count(text: &mut Vec<u8>, name: &[u8], number: u128) -> Result<(), Alloc
     ensures { OnOk result (text.new.items ≡ text.old.items ++ count_line name.now number) }
 {
     text.extend_from_slice(name)?;
-    text.extend_from_slice(b" ")?;
-    push_number(text, number)?;
-    text.extend_from_slice(b"\n")
+    push_numbered_line(text, b" ", number)
 }
 
 // How many positions the restarts redo.

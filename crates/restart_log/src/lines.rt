@@ -1,5 +1,5 @@
 // Numbers and printed lines, as bytes.
-ghost use Rattle.std.specs.Prelude.{◌≡◌, ◌↔◌, ◌++◌, IsTrue, OnOk, IfOk};
+ghost use Rattle.std.specs.Prelude.{◌≡◌, ◌↔◌, ◌++◌, codes, IsTrue, OnOk, IfOk};
 ghost use Rattle.std.specs.Fmt.{signed_decimal};
 ghost use Rattle.restart_log.specs.meaning.Lines.{spaced, printed_line, printed};
 
@@ -14,13 +14,36 @@ pub fn push_number<I: Integer>(text: &mut Vec<u8>, number: I) -> Result<(), Allo
     text.extend_from_slice(Buffer::new().format(number).as_bytes())
 }
 
+/// Appends a word and a number in decimal after it. The error is that memory is out.
+pub fn push_number_after<I: Integer>(
+    text: &mut Vec<u8>,
+    word: &[u8],
+    number: I,
+) -> Result<(), AllocError>
+    ensures { OnOk result (text.new.items ≡ text.old.items ++ word.now ++ I.text number) }
+{
+    text.extend_from_slice(word)?;
+    push_number(text, number)
+}
+
+/// Appends a word, a number in decimal after it, and the end of the line. The error is that memory is out.
+pub fn push_numbered_line<I: Integer>(
+    text: &mut Vec<u8>,
+    word: &[u8],
+    number: I,
+) -> Result<(), AllocError>
+    ensures { OnOk result (text.new.items ≡ text.old.items ++ word.now ++ I.text number ++ codes "\n") }
+{
+    push_number_after(text, word, number)?;
+    text.extend_from_slice(b"\n")
+}
+
 /// Appends each value in decimal after a space. The error is that memory is out.
 pub fn push_spaced(text: &mut Vec<u8>, values: &[i64]) -> Result<(), AllocError>
     ensures { OnOk result (text.new.items ≡ text.old.items ++ spaced values.now) }
 {
     for value in values {
-        text.extend_from_slice(b" ")?;
-        push_number(text, *value)?;
+        push_number_after(text, b" ", *value)?;
     }
     Ok(())
 }

@@ -2,7 +2,7 @@
 ghost use Rattle.std.specs.Prelude.{◌≡◌, ◌++◌, OnOk};
 ghost use Rattle.restart_log.specs.meaning.Tail.{redo_text, restart_line, restart_lines};
 
-use crate::lines::push_number;
+use crate::lines::{push_number, push_number_after};
 use gp_base::{Pos, Restart};
 use std::alloc::AllocError;
 
@@ -12,8 +12,7 @@ pub fn push_redo(text: &mut Vec<u8>, redo: &[Pos]) -> Result<(), AllocError>
 {
     text.extend_from_slice(b" redo")?;
     for position in redo {
-        text.extend_from_slice(b" ")?;
-        push_number(text, position.0)?;
+        push_number_after(text, b" ", position.0)?;
     }
     Ok(())
 }
@@ -23,12 +22,9 @@ fn push_restart(text: &mut Vec<u8>, number: u64, restart: &Restart) -> Result<()
     ensures { OnOk result (text.new.items ≡ text.old.items ++ restart_line number restart.now) }
 {
     push_number(text, number)?;
-    text.extend_from_slice(b": front ")?;
-    push_number(text, restart.front.0)?;
-    text.extend_from_slice(b" struck ")?;
-    push_number(text, restart.struck.0)?;
-    text.extend_from_slice(b" try ")?;
-    push_number(text, restart.attempt)?;
+    push_number_after(text, b": front ", restart.front.0)?;
+    push_number_after(text, b" struck ", restart.struck.0)?;
+    push_number_after(text, b" try ", restart.attempt)?;
     push_redo(text, restart.redo.as_slice())?;
     text.extend_from_slice(b"\n")
 }

@@ -1,9 +1,9 @@
 // The summary of a batch that the program made itself.
 ghost use Rattle.std.specs.Prelude.{◌≡◌, ◌↔◌, ◌++◌, IsTrue, IfOk, OnOk};
-ghost use Rattle.restart_log.specs.meaning.Soak.{wrapped_sum, sum_line, soak_end, soak_text};
+ghost use Rattle.restart_log.specs.meaning.Soak.{wrapped_sum, soak_end, soak_text};
 
 use crate::counts::push_counts;
-use crate::lines::push_number;
+use crate::lines::{push_number, push_numbered_line};
 use gp_base::{End, Seq, Text};
 use reorder_list::Report;
 use std::alloc::{AllocError, Global};
@@ -20,15 +20,6 @@ fn wrapped_sum(cells: &[i64]) -> i64
     sum
 }
 
-// Appends the line of a sum.
-fn push_sum(text: &mut Vec<u8>, sum: i64) -> Result<(), AllocError>
-    ensures { OnOk result (text.new.items ≡ text.old.items ++ sum_line sum) }
-{
-    text.extend_from_slice(b"sum ")?;
-    push_number(text, sum)?;
-    text.extend_from_slice(b"\n")
-}
-
 // Appends how the batch ended.
 fn push_end(text: &mut Vec<u8>, end: End, records: &[i64]) -> Result<(), AllocError>
     ensures { OnOk result (text.new.items ≡ text.old.items ++ soak_end end records.now) }
@@ -36,7 +27,7 @@ fn push_end(text: &mut Vec<u8>, end: End, records: &[i64]) -> Result<(), AllocEr
     match end {
         End::Finished => {
             text.extend_from_slice(b"end finished\n")?;
-            push_sum(text, wrapped_sum(records))
+            push_numbered_line(text, b"sum ", wrapped_sum(records))
         }
         End::Stuck { .. } => text.extend_from_slice(b"end stuck\n"),
         End::Spent(_) => text.extend_from_slice(b"end spent\n"),
@@ -50,9 +41,7 @@ pub fn soak_text(alloc: Global, moves: u32, start: u64, r: &Report) -> Result<Te
 {
     let mut text = Vec::from_slice(alloc, b"soak ")?;
     push_number(&mut text, moves)?;
-    text.extend_from_slice(b" ")?;
-    push_number(&mut text, start)?;
-    text.extend_from_slice(b"\n")?;
+    push_numbered_line(&mut text, b" ", start)?;
     push_end(&mut text, r.end, r.records.as_slice())?;
     push_counts(
         &mut text,

@@ -6,7 +6,7 @@ ghost use Rattle.lock_checker.specs.Accepted.{program_of};
 ghost use Rattle.restart_log.specs.meaning.Tail.{why_word, end_section, tail_text};
 
 use crate::counts::push_counts;
-use crate::lines::push_number;
+use crate::lines::{push_number_after, push_numbered_line};
 use crate::records::push_records;
 use crate::restarts::push_restarts;
 use gp_base::{End, Restart, Seq, Text, Why};
@@ -38,17 +38,10 @@ fn push_end(text: &mut Vec<u8>, heads: &[Head], end: End, records: &[i64]) -> Re
         End::Stuck { why, thread, line } => {
             text.extend_from_slice(b"stuck ")?;
             text.extend_from_slice(why_word(why).as_bytes())?;
-            text.extend_from_slice(b" thread ")?;
-            push_number(text, thread.0)?;
-            text.extend_from_slice(b" line ")?;
-            push_number(text, line)?;
-            text.extend_from_slice(b"\n")
+            push_number_after(text, b" thread ", thread.0)?;
+            push_numbered_line(text, b" line ", line)
         }
-        End::Spent(position) => {
-            text.extend_from_slice(b"spent ")?;
-            push_number(text, position.0)?;
-            text.extend_from_slice(b"\n")
-        }
+        End::Spent(position) => push_numbered_line(text, b"spent ", position.0),
     }
 }
 
