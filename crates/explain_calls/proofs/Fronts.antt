@@ -10,8 +10,8 @@ use Rattle.task_ast.specs.Plain.{Plain, order, end}
 use Rattle.task_ast.specs.Position.{before}
 use Rattle.task_ast.specs.laws.Runs.{plain_for}
 use Rattle.task_ast.proofs.Runs.{order-is, before-is, end-is}
-use Rattle.one_thread.specs.declared.standing.Standing.{Standing}
-use Rattle.one_thread.specs.PlainRuns.{Stands}
+use Rattle.run_standing.specs.declared.standing.Standing.{Standing}
+use Rattle.run_standing.specs.Standings.{Stands}
 use Rattle.run_views.specs.meaning.Waits.{nexts_in}
 use Rattle.run_views.proofs.Endings.{nexts-are}
 use Rattle.run_views.specs.meaning.Deadlocks.{deadlock_text}

@@ -6,7 +6,8 @@ ghost use Rattle.task_ast.specs.Plain.{order, end};
 ghost use Rattle.task_ast.specs.Position.{before};
 ghost use Rattle.run_views.specs.meaning.Waits.{nexts_in};
 ghost use Rattle.run_views.specs.meaning.Deadlocks.{deadlock_text};
-ghost use Rattle.one_thread.specs.PlainRuns.{IsPlainRun, Stands};
+ghost use Rattle.one_thread.specs.PlainRuns.{IsPlainRun};
+ghost use Rattle.run_standing.specs.Standings.{Stands};
 ghost use Rattle.command_line.specs.Words.{IsWithinLimits};
 ghost use Rattle.call_cases.specs.Decided.{work_of, program_in};
 ghost use Rattle.call_cases.specs.meaning.Work.{Go};
@@ -14,13 +15,14 @@ ghost use Rattle.explain_calls.specs.meaning.Fronts.{ending_line, front, IsText}
 
 use call_cases::Request;
 use gp_base::{End, Seq, Text, Why};
-use one_thread::{PlainRun, Standing, run_reckoned, stand_before};
+use one_thread::{PlainRun, run_reckoned};
 use run_counts::Counting;
 use run_details::{
     Halted, Noted, push_counts, push_first_cells, push_slips, push_spent_details, push_strikes,
     push_stuck_details,
 };
 use run_hints::{Results, Tasks, push_crossing, push_unforked, push_unordered, push_unset};
+use run_standing::{Standing, stand_before};
 use run_views::{push_between, push_labelled, push_standing, why_word};
 use std::alloc::{AllocError, Global};
 use task_ast::Head;

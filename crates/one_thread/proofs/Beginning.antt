@@ -1,5 +1,6 @@
 -- How a subthread begins.
-use Rattle.std.proofs.Common.{◌≡◌, ℕ, ℤ, Bool, true, false, List, [], ◌∷◌, Option, Some, None, refl, sym, ap, ◌∙◌}
+use Rattle.std.specs.declared.alloc.AllocError.{AllocError}
+use Rattle.std.proofs.Common.{Result, Ok, Err, OnOk, ◌≡◌, ℕ, ℤ, Bool, true, false, List, [], ◌∷◌, Option, Some, None, refl, sym, ap, ◌∙◌}
 use Rattle.std.specs.Prelude.{slice_set}
 use Rattle.std.proofs.lemmas.Bool.{false≢true}
 use Rattle.task_ast.specs.declared.tree.Stmt.{Stmt as CodeStmt}
@@ -12,7 +13,7 @@ use Rattle.one_thread.specs.declared.left.Left.{Left}
 use Rattle.one_thread.specs.declared.walk.Walk.{Walk}
 use Rattle.one_thread.specs.inner.Remaining.{left_of, rest_of}
 use Rattle.one_thread.specs.inner.Working.{all_worked}
-use Rattle.one_thread.specs.inner.Walking.{setting_of, point_of, LeadsTo, Begun, Gives}
+use Rattle.one_thread.specs.Walking.{setting_of, point_of, LeadsTo, Begun, Gives}
 use Rattle.one_thread.proofs.Walks.{with_left}
 
 -- whether a subthread that begins here does nothing first
@@ -180,3 +181,17 @@ begun_nowhere old left child joined clean same none =
     nothing : (child : Option ℕ) (p : Point) → behind child p [] ≡ p
     nothing None p = refl
     nothing (Some c) p = refl
+
+-- and at a fork, where memory lasts
+pub begun_ok : (r : Result Unit AllocError) (old : Walk) (left : Left) (given new : Walk) (s : CodeStmt) (t : Name) (es : List Expr)
+    (into : Option Name) (child : Option ℕ) (joined : ℤ)
+    → left_of left ≡ left_of old.left → left_of left ≡ plain_stmt s ∷ rest_of left → plain_what s.what ≡ Fork t es into
+    → Gives (fork_named (setting_of old) t es (point_of (with_left old left))) (with_left old left) given
+    → OnOk r ((line : ℕ) (t : Name) (es : List Expr)
+    → LeadsTo (behind child (point_of given) (At line (Fork t es into) ∷ rest_of given.left)) given new × (new.data ≡ given.data))
+    → OnOk r (Begun (begin_actions (setting_of old) (left_of old.left) (point_of old))
+    (behind child (point_of old) (left_of old.left)) joined old new)
+begun_ok (Ok done) old left given new s t es into child joined same first is gives leads =
+    begun_first old left new s (Fork t es into) child joined same first is
+    (fork_begun (with_left old left) given new s.line t es into child joined gives leads)
+begun_ok (Err fault) old left given new s t es into child joined same first is gives leads = leads

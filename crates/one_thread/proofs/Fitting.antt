@@ -1,9 +1,10 @@
 -- Which data statements are resolved, and what they do, part by part.
-use Rattle.std.proofs.Common.{◌≡◌, zero, suc, ℤ, pos, negsuc, true, false, ◌&&◌, List, [], ◌∷◌, ◌++◌, map, Option, Some, None, refl, sym, ap, ◌∙◌, append_assoc, arith, option_map, option_and_then}
+use Rattle.std.specs.declared.alloc.AllocError.{AllocError}
+use Rattle.std.proofs.Common.{Result, Ok, Err, OnOk, subst, ◌≡◌, zero, suc, ℤ, pos, negsuc, true, false, ◌&&◌, List, [], ◌∷◌, ◌++◌, map, Option, Some, None, refl, sym, ap, ◌∙◌, append_assoc, option_map, option_and_then}
 use Rattle.std.specs.Prelude.{is_some}
-use Rattle.std.specs.Ordering.{int_eq}
 use Rattle.std.proofs.lemmas.Bool.{false≢true}
-use Rattle.std.proofs.lemmas.Bool.Decides.{Decides-int_eq}
+use Rattle.task_ast.specs.declared.tree.Stmt.{Stmt as CodeStmt}
+use Rattle.task_ast.specs.meaning.Value.{branch}
 use Rattle.task_ast.specs.meaning.Action.{OfRegisters, Action, Say, Choose, Arm}
 use Rattle.task_ast.specs.meaning.Control.{all_of}
 use Rattle.task_ast.proofs.Arms.{map_some, chosen, some_is, DoesInOrder}
@@ -26,42 +27,46 @@ not_all_some (Some x) os is = absurd (false≢true (sym is))
 pub work-in-order : (joined : ℤ) → DoesInOrder (worked joined) (arm_worked joined)
 work-in-order joined = record { none = λ d. refl; more = λ a arm d. refl }
 
-zero_of : (v : ℤ) → int_eq v (pos 0) ≡ true → v ≡ pos 0
-zero_of v is = grind (arith, Decides-int_eq v (pos 0))
-
-not_zero : int_eq (pos 0) (pos 0) ≡ false → ⊥
-not_zero is = let eq : int_eq (pos 0) (pos 0) ≡ true = refl in false≢true (sym is ∙ eq)
-
-second_unless : (v : ℤ) (first second : Data) → int_eq v (pos 0) ≡ true → first_unless v first second ≡ second
-second_unless v first second is = ap (λ w. first_unless w first second) (zero_of v is)
-
-first_of_two : (v : ℤ) (first second : Data) → int_eq v (pos 0) ≡ false → first_unless v first second ≡ first
-first_of_two (pos zero) first second is = absurd (not_zero is)
-first_of_two (pos (suc n)) first second is = refl
-first_of_two (negsuc n) first second is = refl
-
 chosen_arm : (joined : ℤ) (t : OfRegisters) (x y : Arm) (a : Action) (old new : Data)
     → first_unless (t old.registers) (arm_worked joined x old) (arm_worked joined y old) ≡ new
     → Some (Choose t x y) ≡ Some a → new ≡ worked joined a old
 chosen_arm joined t x y a old new is same = sym is ∙ ap (λ b. worked joined b old) (some_is same)
 
-pub second_works : (t : Option OfRegisters) (a b : Option Arm) (old new : Data) (v : ℤ) → int_eq v (pos 0) ≡ true
+second_works : (t : Option OfRegisters) (a b : Option Arm) (old new : Data) (v : ℤ)
+    → ((first second : Data) → first_unless v first second ≡ second)
     → option_map (λ t. t old.registers) t ≡ Some v → ArmWorks b old new → Works (chosen t a b) old new
-second_works None a b old new v zero_is is does joined act same = absurd (cc is)
-second_works (Some t) None b old new v zero_is is does joined act same = absurd (cc same)
-second_works (Some t) (Some x) None old new v zero_is is does joined act same = absurd (cc same)
-second_works (Some t) (Some x) (Some y) old new v zero_is is does joined act same =
+second_works None a b old new v takes is does joined act same = absurd (cc is)
+second_works (Some t) None b old new v takes is does joined act same = absurd (cc same)
+second_works (Some t) (Some x) None old new v takes is does joined act same = absurd (cc same)
+second_works (Some t) (Some x) (Some y) old new v takes is does joined act same =
     chosen_arm joined t x y act old new (ap (λ w. first_unless w (arm_worked joined x old) (arm_worked joined y old)) (some_is is)
-    ∙ second_unless v (arm_worked joined x old) (arm_worked joined y old) zero_is ∙ sym (does joined y refl)) same
+    ∙ takes (arm_worked joined x old) (arm_worked joined y old) ∙ sym (does joined y refl)) same
 
-pub first_works : (t : Option OfRegisters) (a b : Option Arm) (old new : Data) (v : ℤ) → int_eq v (pos 0) ≡ false
+first_works : (t : Option OfRegisters) (a b : Option Arm) (old new : Data) (v : ℤ)
+    → ((first second : Data) → first_unless v first second ≡ first)
     → option_map (λ t. t old.registers) t ≡ Some v → ArmWorks a old new → Works (chosen t a b) old new
-first_works None a b old new v zero_is is does joined act same = absurd (cc is)
-first_works (Some t) None b old new v zero_is is does joined act same = absurd (cc same)
-first_works (Some t) (Some x) None old new v zero_is is does joined act same = absurd (cc same)
-first_works (Some t) (Some x) (Some y) old new v zero_is is does joined act same =
+first_works None a b old new v takes is does joined act same = absurd (cc is)
+first_works (Some t) None b old new v takes is does joined act same = absurd (cc same)
+first_works (Some t) (Some x) None old new v takes is does joined act same = absurd (cc same)
+first_works (Some t) (Some x) (Some y) old new v takes is does joined act same =
     chosen_arm joined t x y act old new (ap (λ w. first_unless w (arm_worked joined x old) (arm_worked joined y old)) (some_is is)
-    ∙ first_of_two v (arm_worked joined x old) (arm_worked joined y old) zero_is ∙ sym (does joined x refl)) same
+    ∙ takes (arm_worked joined x old) (arm_worked joined y old) ∙ sym (does joined x refl)) same
+
+-- the block that the value takes
+pub block_works : (r : Result Unit AllocError) (does : List CodeStmt → Option Arm) (t : Option OfRegisters) (whole : Option Action)
+    (first second block : List CodeStmt) (old new : Data) (v : ℤ) → whole ≡ chosen t (does first) (does second)
+    → block ≡ branch v first second → option_map (λ t. t old.registers) t ≡ Some v
+    → OnOk r (ArmWorks (does block) old new) → OnOk r (Works whole old new)
+block_works (Ok done) does t whole first second block old new (pos zero) is takes value works = λ joined act same.
+    second_works t (does first) (does second) old new (pos zero) (λ a b. refl) value (subst (λ b. ArmWorks (does b) old new) takes works) joined act
+    (sym is ∙ same)
+block_works (Ok done) does t whole first second block old new (pos (suc n)) is takes value works = λ joined act same.
+    first_works t (does first) (does second) old new (pos (suc n)) (λ a b. refl) value (subst (λ b. ArmWorks (does b) old new) takes works) joined act
+    (sym is ∙ same)
+block_works (Ok done) does t whole first second block old new (negsuc n) is takes value works = λ joined act same.
+    first_works t (does first) (does second) old new (negsuc n) (λ a b. refl) value (subst (λ b. ArmWorks (does b) old new) takes works) joined act
+    (sym is ∙ same)
+block_works (Err fault) does t whole first second block old new v is takes value works = works
 
 -- printed lines
 module _ (registers : List ℤ) (line : List ℤ) where
@@ -85,11 +90,18 @@ module _ (registers : List ℤ) (line : List ℤ) where
   no_line None os is = refl
   no_line (Some t) os is = absurd (cc is)
 
-pub said : (o : Option (List OfRegisters)) (old : Data) (line : List ℤ) → Some line ≡ option_map (map (λ t. t old.registers)) o
+said : (o : Option (List OfRegisters)) (old : Data) (line : List ℤ) → Some line ≡ option_map (map (λ t. t old.registers)) o
     → Works (option_map Say o) old (record old { lines = old.lines ++ line ∷ [] })
 said None old line is joined act same = absurd (cc is)
 said (Some ts) old line is joined act same =
     ap (λ l. record old { lines = old.lines ++ l ∷ [] }) (some_is is) ∙ ap (λ a. worked joined a old) (some_is same)
+
+pub said_ok : (r : Result Unit AllocError) (o : Option (List OfRegisters)) (whole : Option Action) (old : Data) (line : List ℤ)
+    (lines : List (List ℤ)) → whole ≡ option_map Say o → Some line ≡ option_map (map (λ t. t old.registers)) o
+    → OnOk r (lines ≡ old.lines ++ line ∷ []) → OnOk r (Works whole old (record old { lines = lines }))
+said_ok (Ok done) o whole old line lines is some put = λ joined act same.
+    ap (λ l. record old { lines = l }) put ∙ said o old line some joined act (sym is ∙ same)
+said_ok (Err fault) o whole old line lines is some put = put
 
 pub unsaid : (o : Option (List OfRegisters)) (old new : Data) → None ≡ option_map (map (λ t. t old.registers)) o
     → Works (option_map Say o) old new

@@ -2,8 +2,9 @@
 -- another; data arguments are actions, and the loop over them keeps that those that are left do on what was reached
 -- what all of them do from the beginning (AheadOf). Where the task or an argument is missing, the step of the plain run
 -- finds none either.
-use Rattle.std.proofs.Common.{◌≡◌, ℕ, suc, ◌+◌, ◌<◌, ℤ, Bool, true, false, cond, List, [], ◌∷◌, ◌++◌, map, length, get_or, drop, Option, Some, None, refl, sym, ap, ◌∙◌, subst, option_map, option_and_then, position, unwrap_or, append-nil, nat_lt, ◌≤◌, ◌&&◌}
-use Rattle.std.specs.Prelude.{is_some, slice_get, slice_set, find, replicate, pos}
+use Rattle.std.specs.declared.alloc.AllocError.{AllocError}
+use Rattle.std.proofs.Common.{Result, Ok, Err, IfOk, ◌≡◌, ℕ, suc, ◌+◌, ◌<◌, ℤ, Bool, true, false, cond, List, [], ◌∷◌, ◌++◌, map, length, get_or, drop, Option, Some, None, refl, sym, ap, ◌∙◌, subst, option_map, option_and_then, position, unwrap_or, append-nil, nat_lt, ◌≤◌, ◌&&◌}
+use Rattle.std.specs.Prelude.{is_some, is_none, slice_get, slice_set, find, replicate, pos}
 use Rattle.one_thread.specs.declared.data.Data.{Data}
 use Rattle.one_thread.specs.inner.Working.{worked, all_worked}
 use Rattle.std.proofs.lemmas.Bool.{false≢true, ltb-true, ltb-false}
@@ -23,7 +24,7 @@ use Rattle.task_ast.specs.View.{plain_expr, plain_exprs, plain_task, plain_progr
 use Rattle.task_ast.proofs.Terms.{position-cons}
 use Rattle.one_thread.specs.declared.walk.Walk.{Walk}
 use Rattle.one_thread.specs.declared.walk.Went.TheVariants as went
-use Rattle.one_thread.specs.inner.Walking.{setting_of, point_of, Stepped, Gives}
+use Rattle.one_thread.specs.Walking.{setting_of, point_of, Stepped, Gives}
 use Rattle.std.proofs.Math.ListN.{drop_of_length-le}
 use Rattle.task_ast.proofs.Arms.{from-here}
 use Rattle.one_thread.proofs.Fitting.{and_then_some}
@@ -188,29 +189,66 @@ pub no-task : (walk : Walk) (line : ℕ) (t : Name) (es : List Expr) → walk.en
 no-task walk line t es clean none =
     none_forks walk line t _ clean (ap (option_and_then (λ task. fork_arguments (setting_of walk) task es (point_of walk))) none)
 
-pub no-control : (walk : Walk) (line : ℕ) (t : Name) (es : List Expr) (task : TaskText) → walk.env.regs ≡ []
-    → task_named (setting_of walk).program t ≡ Some task → None ≡ control_arguments task.params es walk.env
-    → Stepped (forks walk line t (fork_named (setting_of walk) t es (point_of walk)))
-    (went.Stopped (record { sync = sync.BadIndex; line = line })) walk walk
-no-control walk line t es task clean named none =
-    none_forks walk line t _ clean (args_of walk t es task clean named ∙ ap (option_and_then _) (sym none))
-
-data_none : {A : Type 0} (o : Option (List Action)) (f : List Action → A) → false ≡ is_some o → option_map f o ≡ None
-data_none None f is = refl
-data_none (Some x) f is = absurd (false≢true is)
-
 data_some : {A : Type 0} (o : Option (List Action)) (f : List Action → A) → true ≡ is_some o
     → (actions : List Action) × (option_map f o ≡ Some (f actions))
 data_some None f is = absurd (false≢true (sym is))
 data_some (Some x) f is = (x, refl)
 
-pub no-data : (walk : Walk) (line : ℕ) (t : Name) (es : List Expr) (task : TaskText) (values : List ℤ) → walk.env.regs ≡ []
-    → task_named (setting_of walk).program t ≡ Some task → Some values ≡ control_arguments task.params es walk.env
-    → false ≡ is_some (data_arguments (setting_of walk) (registers_of task) (registers_of (point_of walk).task) task.params es walk.env)
+-- the values of a fork's control arguments, where its data arguments have values too
+abbrev pub valued : Option (List Action) → Option (List ℤ) → Option (List ℤ)
+valued actions controls = option_and_then (λ values. option_map (λ does. values) actions) controls
+
+pub valued-not : (actions : Option (List Action)) (controls : Option (List ℤ)) → false ≡ is_some actions → None ≡ valued actions controls
+valued-not None None fits = refl
+valued-not None (Some values) fits = refl
+valued-not (Some does) controls fits = absurd (false≢true fits)
+
+valued-all : (actions : Option (List Action)) (controls : Option (List ℤ)) → true ≡ is_some actions → controls ≡ valued actions controls
+valued-all None controls fits = absurd (false≢true (sym fits))
+valued-all (Some does) None fits = refl
+valued-all (Some does) (Some values) fits = refl
+
+pub valued-ok : (r : Result (Option (List ℤ)) AllocError) (controls : Option (List ℤ))
+    (actions : Setting → List Name → List Name → Option (List Action)) → IfOk r (λ values. values ≡ controls)
+    → ((s : Setting) (given registers : List Name) → true ≡ is_some (actions s given registers))
+    → IfOk r (λ values. (s : Setting) (given registers : List Name) → values ≡ valued (actions s given registers) controls)
+valued-ok (Ok values) controls actions is fits = λ s given registers.
+    is ∙ valued-all (actions s given registers) controls (fits s given registers)
+valued-ok (Err fault) controls actions is fits = is
+
+pub valued-some : (actions : Option (List Action)) (controls : Option (List ℤ)) (values : List ℤ) → Some values ≡ valued actions controls
+    → (Some values ≡ controls) × (true ≡ is_some actions)
+valued-some None None values is = absurd (cc is)
+valued-some None (Some others) values is = absurd (cc is)
+valued-some (Some does) None values is = absurd (cc is)
+valued-some (Some does) (Some others) values is = (is, refl)
+
+valued-none : (actions : Option (List Action)) (controls : Option (List ℤ)) (first : Action) → None ≡ valued actions controls
+    → option_and_then {U = List ℤ × List Action} (λ values. option_map (λ does. (values, first ∷ does)) actions) controls ≡ None
+valued-none None None first is = refl
+valued-none None (Some values) first is = refl
+valued-none (Some does) None first is = refl
+valued-none (Some does) (Some values) first is = absurd (cc is)
+
+-- where an argument of a fork has no value
+pub fork-unvalued : (walk : Walk) (t : Name) (es : List Expr) (task : TaskText) → walk.env.regs ≡ []
+    → task_named (setting_of walk).program t ≡ Some task
+    → None ≡ valued (data_arguments (setting_of walk) (registers_of task) (registers_of (point_of walk).task) task.params es walk.env)
+    (control_arguments task.params es walk.env)
+    → fork_named (setting_of walk) t es (point_of walk) ≡ None
+fork-unvalued walk t es task clean named none =
+    args_of walk t es task clean named
+    ∙ valued-none (data_arguments (setting_of walk) (registers_of task) (registers_of (point_of walk).task) task.params es walk.env)
+    (control_arguments task.params es walk.env) (Child (length (registers_of task))) none
+
+pub no-values : (walk : Walk) (line : ℕ) (t : Name) (es : List Expr) (task : TaskText) → walk.env.regs ≡ []
+    → task_named (setting_of walk).program t ≡ Some task
+    → None ≡ valued (data_arguments (setting_of walk) (registers_of task) (registers_of (point_of walk).task) task.params es walk.env)
+    (control_arguments task.params es walk.env)
     → Stepped (forks walk line t (fork_named (setting_of walk) t es (point_of walk)))
     (went.Stopped (record { sync = sync.BadIndex; line = line })) walk walk
-no-data walk line t es task values clean named some none =
-    none_forks walk line t _ clean (args_of walk t es task clean named ∙ ap (option_and_then _) (sym some) ∙ data_none _ _ none)
+no-values walk line t es task clean named none =
+    none_forks walk line t _ clean (fork-unvalued walk t es task clean named none)
 
 pub forked : (walk : Walk) (line : ℕ) (t : Name) (es : List Expr) (task : TaskText) (k : ℕ) (values : List ℤ) → walk.env.regs ≡ []
     → task_named (setting_of walk).program t ≡ Some task → task_number (setting_of walk).program t ≡ Some k
@@ -224,22 +262,10 @@ forked walk line t es task k values clean named number some fits =
     (sym (args_of walk t es task clean named ∙ ap (option_and_then _) (sym some) ∙ has.1))
     (ap (λ o. record { sync = sync.Fork (unwrap_or o 0) values; line = line }) (sym number), stays walk clean, refl)
 
--- where a fork's arguments are not resolved, and where they are
+-- where a fork's task or arguments are not resolved, and where they are
 pub fork-untasked : (walk : Walk) (t : Name) (es : List Expr) → task_named (setting_of walk).program t ≡ None
     → fork_named (setting_of walk) t es (point_of walk) ≡ None
 fork-untasked walk t es none = ap (option_and_then (λ task. fork_arguments (setting_of walk) task es (point_of walk))) none
-
-pub fork-uncontrolled : (walk : Walk) (t : Name) (es : List Expr) (task : TaskText) → walk.env.regs ≡ []
-    → task_named (setting_of walk).program t ≡ Some task → None ≡ control_arguments task.params es walk.env
-    → fork_named (setting_of walk) t es (point_of walk) ≡ None
-fork-uncontrolled walk t es task clean named none = args_of walk t es task clean named ∙ ap (option_and_then _) (sym none)
-
-pub fork-undata : (walk : Walk) (t : Name) (es : List Expr) (task : TaskText) (values : List ℤ) → walk.env.regs ≡ []
-    → task_named (setting_of walk).program t ≡ Some task → Some values ≡ control_arguments task.params es walk.env
-    → false ≡ is_some (data_arguments (setting_of walk) (registers_of task) (registers_of (point_of walk).task) task.params es walk.env)
-    → fork_named (setting_of walk) t es (point_of walk) ≡ None
-fork-undata walk t es task values clean named some none =
-    args_of walk t es task clean named ∙ ap (option_and_then _) (sym some) ∙ data_none _ _ none
 
 pub gives-none : (walk : Walk) (o : Option (List ℤ × List Action)) → o ≡ None → Gives o walk walk
 gives-none walk o none =
@@ -256,7 +282,7 @@ some_data : (o : Option (List Action)) → true ≡ is_some o → (actions : Lis
 some_data None is = absurd (false≢true (sym is))
 some_data (Some actions) is = (actions, refl)
 
-pub gives-all : (walk : Walk) (t : Name) (es : List Expr) (task : TaskText) (values : List ℤ) (given names : List Name) (child : List ℤ)
+gives-all : (walk : Walk) (t : Name) (es : List Expr) (task : TaskText) (values : List ℤ) (given names : List Name) (child : List ℤ)
     (new : Data) → walk.env.regs ≡ [] → task_named (setting_of walk).program t ≡ Some task
     → Some values ≡ control_arguments task.params es walk.env
     → true ≡ is_some (data_arguments (setting_of walk) (registers_of task) (registers_of (point_of walk).task) task.params es walk.env)
@@ -284,6 +310,35 @@ gives-all walk t es task values given names child new clean named some fits give
       task = refl;
       registers = refl;
     }
+
+-- where the values of its arguments are told
+module _ (walk : Walk) (t : Name) (es : List Expr) (task : TaskText) (values : Option (List ℤ)) (clean : walk.env.regs ≡ [])
+    (named : task_named (setting_of walk).program t ≡ Some task)
+    (is : values
+    ≡ valued (data_arguments (setting_of walk) (registers_of task) (registers_of (point_of walk).task) task.params es walk.env)
+    (control_arguments task.params es walk.env)) where
+  pub gives-unvalued : true ≡ is_none values → Gives (fork_named (setting_of walk) t es (point_of walk)) walk walk
+  gives-unvalued none = gives-none walk _ (fork-unvalued walk t es task clean named (no_value values none ∙ is))
+    where
+      no_value : (o : Option (List ℤ)) → true ≡ is_none o → None ≡ o
+      no_value None none = refl
+      no_value (Some v) none = absurd (false≢true (sym none))
+
+  pub gives-valued : (given names : List Name) (child : List ℤ) (new : Data) → false ≡ is_none values
+      → given ≡ registers_of task → names ≡ registers_of (point_of walk).task → child ≡ replicate (length given) (pos 0)
+      → ((joined : ℤ) (s : Setting) (actions : List Action) → data_arguments s given names task.params es walk.env ≡ Some actions
+      → new ≡ all_worked joined actions (record walk.data { child = child }))
+      → Gives (fork_named (setting_of walk) t es (point_of walk)) walk (record walk { «data» = new })
+  gives-valued given names child new some given_is names_is child_is works =
+      let value = a_value values some in
+      let both =
+      valued-some (data_arguments (setting_of walk) (registers_of task) (registers_of (point_of walk).task) task.params es walk.env)
+      (control_arguments task.params es walk.env) value.0 (value.1 ∙ is) in
+      gives-all walk t es task value.0 given names child new clean named both.0 both.1 given_is names_is child_is works
+    where
+      a_value : (o : Option (List ℤ)) → false ≡ is_none o → (v : List ℤ) × (Some v ≡ o)
+      a_value None some = absurd (false≢true some)
+      a_value (Some v) some = (v, refl)
 
 -- the data arguments that are left do on what was reached what all of them do from the beginning
 abbrev pub AheadOf : (joined : ℤ) → (whole left : Option (List Action)) → (now start : Data) → Type 0

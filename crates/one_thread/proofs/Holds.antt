@@ -5,7 +5,7 @@ use Rattle.task_ast.proofs.IssuedTables.{get_set_here}
 use Rattle.task_ast.proofs.Holds as locks
 use Rattle.task_ast.proofs.Holds.{kept, set-set}
 use Rattle.task_ast.specs.LockLists.{held_at}
-use Rattle.one_thread.specs.inner.Holding.{after_change, AreHeld}
+use Rattle.one_thread.specs.Holding.{after_change, AreHeld}
 
 -- the old owner gives the lock back
 released : (owners : List (Option ℕ)) (held other : List (List ℕ)) (l : ℕ) (old : Option ℕ) → AreHeld owners held → l < length owners

@@ -2,7 +2,7 @@
 -- (Like). Each rule of a turn passes to such a table, ends, or issues from one; an issue has begun one more, and has
 -- one thread more after a fork.
 use Rattle.std.proofs.Common.{◌≡◌, ℕ, zero, suc, ◌<◌, Bool, true, false, cond, List, map, length, Option, Some, None, is_none, nat_lt, nat_le, unwrap_or, refl, ap, ◌∙◌, subst, arith, count_by, option_and_then, add-one}
-use Rattle.one_thread.specs.inner.Runs.{grown}
+use Rattle.one_thread.specs.Runs.{grown}
 use Rattle.std.specs.Prelude.{slice_get, pos, negsuc}
 use Rattle.std.proofs.lemmas.Bool.{ltb-true}
 use Rattle.std.proofs.lemmas.List.{length-map, length-append}

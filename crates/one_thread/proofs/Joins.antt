@@ -10,10 +10,10 @@ use Rattle.task_ast.specs.declared.sync.SyncOp.TheVariants as sync_op
 use Rattle.task_ast.specs.meaning.Repeat.{Again, Done}
 use Rattle.task_ast.specs.meaning.Table.{is_end}
 use Rattle.task_ast.specs.Table.{Table, next_of}
-use Rattle.task_ast.specs.Turn.{Turn, Needs, Ended, tried, stuck, at_join, issuing, passing}
+use Rattle.task_ast.specs.Turn.{Turn, Ended, tried, stuck, at_join, issuing, passing}
 use Rattle.one_thread.specs.declared.turns.Turn.{Turn as TurnHere}
 use Rattle.one_thread.specs.declared.turns.Turn.TheVariants as here
-use Rattle.one_thread.specs.inner.View.{gives}
+use Rattle.one_thread.specs.View.{gives}
 
 -- a join, where this is the thread that it names
 abbrev join_of : Option ℕ → Table → ℕ → Next → Again Table Turn

@@ -17,7 +17,7 @@ use Rattle.task_ast.proofs.Looks.{numbers-first}
 use Rattle.task_ast.proofs.Rounds.{keeps_map, other_nth}
 use Rattle.task_ast.proofs.Turns.{next_issue_step}
 use Rattle.ended_seats.specs.Idle.{passed_at, PassedWithin}
-use Rattle.one_thread.specs.inner.View.{token_of}
+use Rattle.one_thread.specs.View.{token_of}
 use Rattle.one_thread.specs.inner.Resting.{is_going, stalls, rests_at, rests, RestBetween, looking, Alike}
 
 -- ---- what seats that are alike have in common

@@ -10,8 +10,8 @@ pub mod Lefts
 pub mod Looking
 pub mod Mirroring
 pub mod Naming
-pub mod Nearing
 pub mod Openings
+pub mod OtherKinds
 pub mod Performing
 pub mod Ranges
 pub mod Running

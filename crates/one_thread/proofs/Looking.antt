@@ -7,7 +7,7 @@ use Rattle.task_ast.proofs.Looks.{get-at}
 use Rattle.task_ast.proofs.SeenSeats.{seen-at}
 use Rattle.one_thread.specs.declared.seats.Table.{Table}
 use Rattle.one_thread.specs.declared.seats.Seat.{Seat}
-use Rattle.one_thread.specs.inner.View.{table_of, seat_of, token_of}
+use Rattle.one_thread.specs.View.{table_of, seat_of, token_of}
 
 -- what `get` found
 pub at-get : {X : Type 0} (xs items : List X) (i : ℕ) (x : X) → xs ≡ items → true ≡ nat_lt i (length xs) → x ≡ get_or xs i x

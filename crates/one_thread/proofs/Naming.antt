@@ -1,5 +1,6 @@
 -- The record cells that are recorded are those that actions name.
-use Rattle.std.proofs.Common.{◌≡◌, ℕ, zero, suc, ℤ, pos, negsuc, Bool, true, false, cond, List, [], ◌∷◌, Option, Some, None, Less, Equal, Greater, refl, sym, ap, ◌∙◌, nat_lt}
+use Rattle.std.specs.declared.alloc.AllocError.{AllocError}
+use Rattle.std.proofs.Common.{Result, Ok, Err, OnOk, ◌≡◌, ℕ, zero, suc, ℤ, pos, negsuc, Bool, true, false, cond, List, [], ◌∷◌, Option, Some, None, Less, Equal, Greater, refl, sym, ap, ◌∙◌, nat_lt}
 use Rattle.std.specs.Prelude.{nat_eq}
 use Rattle.std.specs.Ordering.{nat_cmp, match_ordering}
 use Rattle.std.specs.BTreeSet.{insert_key}
@@ -72,3 +73,8 @@ noted-works o old new named notes works joined a is =
 pub all-named : (joined : ℤ) (actions : List Action) (d : Data) → (all_worked joined actions d).named ≡ all_naming actions d.named
 all-named joined [] d = refl
 all-named joined (a ∷ actions) d = all-named joined actions (recorded joined a d)
+
+-- what follows of what was noted, where memory lasts
+pub noted : {A B : Type 0} (r : Result Unit AllocError) → (A → B) → OnOk r A → OnOk r B
+noted (Ok done) then notes = then notes
+noted (Err fault) then notes = notes

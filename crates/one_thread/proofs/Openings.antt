@@ -20,10 +20,10 @@ use Rattle.task_ast.proofs.Terms.{position-cons}
 use Rattle.task_ast.proofs.Arms.{some_is}
 use Rattle.one_thread.specs.declared.walk.Walk.{Walk}
 use Rattle.one_thread.specs.declared.threads.Run.{Run}
-use Rattle.one_thread.specs.inner.Holding.{AreHeld}
-use Rattle.one_thread.specs.inner.View.{table_of, WalksStand}
-use Rattle.one_thread.specs.inner.Walking.{point_of}
-use Rattle.one_thread.specs.inner.Runs.{slots_of, registers_at, IsSound, AreSound, IsNew, Holds}
+use Rattle.one_thread.specs.Holding.{AreHeld}
+use Rattle.one_thread.specs.View.{table_of, WalksStand}
+use Rattle.one_thread.specs.Walking.{point_of}
+use Rattle.one_thread.specs.Runs.{slots_of, registers_at, IsSound, AreSound, IsNew, Holds}
 use Rattle.one_thread.specs.inner.Start.{IsFirst}
 
 -- ---- cells

@@ -34,12 +34,12 @@ use Rattle.one_thread.specs.declared.data.Data.{Data}
 use Rattle.one_thread.specs.declared.walk.Walk.{Walk}
 use Rattle.one_thread.specs.declared.work.Told.{Told}
 use Rattle.one_thread.specs.declared.threads.Run.{Run}
-use Rattle.one_thread.specs.inner.Holding.{AreHeld}
-use Rattle.one_thread.specs.inner.View.{table_of}
+use Rattle.one_thread.specs.Holding.{AreHeld}
+use Rattle.one_thread.specs.View.{table_of}
 use Rattle.one_thread.specs.inner.Working.{all_worked}
-use Rattle.one_thread.specs.inner.Walking.{setting_of, point_of}
+use Rattle.one_thread.specs.Walking.{setting_of, point_of}
 use Rattle.one_thread.specs.inner.Subthreads.{settled, at_work, body_from, actions_from, data_from}
-use Rattle.one_thread.specs.inner.Runs.{registers_at, joined_of, IsSound, AreSound, Forks, grown, Performed, Holds}
+use Rattle.one_thread.specs.Runs.{registers_at, joined_of, IsSound, AreSound, Forks, grown, Performed, Holds}
 use Rattle.one_thread.proofs.Within.{is_cell, body_within, first_within, all-append}
 use Rattle.one_thread.proofs.Mirroring.{Mirrors, all_mirrors}
 use Rattle.one_thread.proofs.Naming.{all-named}

@@ -28,12 +28,12 @@ use Rattle.one_thread.specs.declared.seats.Table.{Table}
 use Rattle.one_thread.specs.declared.threads.Run.{Run}
 use Rattle.one_thread.specs.declared.run.Step.{Step}
 use Rattle.one_thread.specs.declared.run.Move.{Move as Found}
-use Rattle.one_thread.specs.inner.Holding.{AreHeld}
-use Rattle.one_thread.specs.inner.View.{table_of, seat_of, WalksStand}
-use Rattle.one_thread.specs.inner.Walking.{point_of}
-use Rattle.one_thread.specs.inner.Runs.{Holds, grown}
+use Rattle.one_thread.specs.Holding.{AreHeld}
+use Rattle.one_thread.specs.View.{table_of, seat_of, WalksStand}
+use Rattle.one_thread.specs.Walking.{point_of}
+use Rattle.one_thread.specs.Runs.{Holds, grown}
 use Rattle.one_thread.specs.PlainRuns.{shown, IsPlainRun}
-use Rattle.one_thread.specs.inner.Moves.{foot_with, Stepped, Went, Halted, Follows, Ahead}
+use Rattle.one_thread.specs.Moves.{foot_with, Stepped, Went, Halted, Follows, Ahead}
 use Rattle.one_thread.proofs.Issues.{Issues, issued-so}
 use Rattle.one_thread.proofs.Performing.{actions, after_it, lines-are, named-are, holds-after, threads-after}
 

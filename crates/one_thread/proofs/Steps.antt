@@ -1,10 +1,9 @@
 -- Single control steps of the walk.
-use Rattle.std.proofs.Common.{◌≡◌, ℕ, zero, suc, ℤ, pos, negsuc, true, false, List, [], ◌∷◌, ◌++◌, Option, Some, None, refl, sym, ap, ◌∙◌, subst, arith}
+use Rattle.std.proofs.Common.{◌≡◌, ℕ, zero, suc, ℤ, pos, negsuc, true, false, List, [], ◌∷◌, ◌++◌, Option, Some, None, refl, sym, ap, ◌∙◌, subst}
 use Rattle.std.specs.Prelude.{is_some, IsTrue}
 use Rattle.std.specs.Ordering.{int_eq}
 use Rattle.std.specs.Borrow.{Bor}
 use Rattle.std.proofs.lemmas.Bool.{false≢true}
-use Rattle.std.proofs.lemmas.Bool.Decides.{Decides-int_eq}
 use Rattle.task_ast.specs.declared.env.Env.{Env}
 use Rattle.task_ast.specs.declared.tree.Stmt as code
 use Rattle.task_ast.specs.declared.sync.SyncOp.TheVariants as sync
@@ -19,7 +18,7 @@ use Rattle.task_ast.specs.View.{plain_stmts, plain_block}
 use Rattle.one_thread.specs.declared.walk.Walk.{Walk}
 use Rattle.one_thread.specs.declared.walk.Went.TheVariants as went
 use Rattle.one_thread.specs.inner.Remaining.{left_of, rest_of}
-use Rattle.one_thread.specs.inner.Walking.{setting_of, point_of, LeadsTo, Stepped}
+use Rattle.one_thread.specs.Walking.{setting_of, point_of, LeadsTo, Stepped}
 use Rattle.one_thread.proofs.Lefts.{statements-block}
 use Rattle.one_thread.proofs.Naming.{Records}
 
@@ -114,10 +113,11 @@ unacted walk line w clean is_data_here is =
     ∙ ap (λ env. known line (action_here walk w env) (λ a. Act a (going (point_of walk) (rest_of walk.left)))) (env_is walk clean)))
     (known_stops line (action_here walk w walk.env) (going (point_of walk) (rest_of walk.left)) walk clean is)
 
-branch_second : (v : ℤ) (first second : Step Point) → int_eq v (pos 0) ≡ true → branch v first second ≡ second
-branch_second v first second is =
-    let zero_is : v ≡ pos 0 = grind (arith, Decides-int_eq v (pos 0)) in
-    ap (λ w. branch w first second) zero_is
+branch_of : (f : List code.Stmt → Step Point) (v : ℤ) (first second : List code.Stmt)
+    → branch v (f first) (f second) ≡ f (branch v first second)
+branch_of f (pos zero) first second = refl
+branch_of f (pos (suc n)) first second = refl
+branch_of f (negsuc n) first second = refl
 
 abbrev branches : Walk → List code.Stmt → List code.Stmt → ℤ → Step Point
 branches walk first second v =
@@ -133,26 +133,16 @@ entered old new block is same leads = (
   same,
 )
 
--- the second branch of a choice
-pub second_taken : (old new : Walk) (line : ℕ) (e : Expr) (first second : List code.Stmt) (v : ℤ) → old.env.regs ≡ []
-    → value e old.env ≡ Some v → int_eq v (pos 0) ≡ true
-    → left_of new.left ≡ plain_stmts second ++ rest_of old.left → new.data ≡ old.data
+-- the block that the value of a choice takes
+pub block_taken : (old new : Walk) (line : ℕ) (e : Expr) (first second taken : List code.Stmt) (v : ℤ) → old.env.regs ≡ []
+    → value e old.env ≡ Some v → taken ≡ branch v first second
+    → left_of new.left ≡ plain_stmts taken ++ rest_of old.left → new.data ≡ old.data
     → LeadsTo (going (point_of old) (left_of new.left)) old new
     → Stepped (step_at (setting_of old) line (If e (plain_block first) (plain_block second)) (rest_of old.left) (point_of old)) went.On old
     new
-second_taken old new line e first second v clean is zero_is left same leads =
+block_taken old new line e first second taken v clean is takes left same leads =
     subst (λ st. Stepped st went.On old new) (sym
-    (ap (λ o. known line o (branches old first second)) (ap (value e) (env_is old clean) ∙ is) ∙ branch_second v _ _ zero_is))
-    (entered old new second left same leads)
-
--- the first branch of a choice
-pub first_taken : (old new : Walk) (line : ℕ) (e : Expr) (first second : List code.Stmt) (v : ℤ) → old.env.regs ≡ []
-    → value e old.env ≡ Some v → int_eq v (pos 0) ≡ false
-    → left_of new.left ≡ plain_stmts first ++ rest_of old.left → new.data ≡ old.data
-    → LeadsTo (going (point_of old) (left_of new.left)) old new
-    → Stepped (step_at (setting_of old) line (If e (plain_block first) (plain_block second)) (rest_of old.left) (point_of old)) went.On old
-    new
-first_taken old new line e first second v clean is nonzero left same leads =
-    subst (λ st. Stepped st went.On old new) (sym
-    (ap (λ o. known line o (branches old first second)) (ap (value e) (env_is old clean) ∙ is) ∙ branch_first v _ _ nonzero))
-    (entered old new first left same leads)
+    (ap (λ o. known line o (branches old first second)) (ap (value e) (env_is old clean) ∙ is)
+    ∙ branch_of (λ b. Silent (going (point_of old) (statements (plain_block b) ++ rest_of old.left))) v first second
+    ∙ ap (λ b. Silent (going (point_of old) (statements (plain_block b) ++ rest_of old.left))) (sym takes)))
+    (entered old new taken left same leads)

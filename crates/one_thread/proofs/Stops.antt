@@ -11,7 +11,7 @@ use Rattle.task_ast.specs.Table.{Seat, Table}
 use Rattle.task_ast.specs.Turn.{Needs, Ended, turn, look, deadlocked}
 use Rattle.task_ast.proofs.SeenSeats.{LooksAt, next-at, passed-at}
 use Rattle.one_thread.specs.declared.turns.Turn.{Turn as TurnHere}
-use Rattle.one_thread.specs.inner.View.{gives}
+use Rattle.one_thread.specs.View.{gives}
 
 -- no thread is left
 pub turn-ends : (table : Table) → LooksAt table None → turn table ≡ Done (Ended Finished)

@@ -11,7 +11,7 @@ use Rattle.one_thread.specs.declared.walk.Walk.{Walk}
 use Rattle.one_thread.specs.declared.work.Shared.{Shared}
 use Rattle.one_thread.specs.declared.work.Done.{Done}
 use Rattle.one_thread.specs.inner.Working.{all_worked}
-use Rattle.one_thread.specs.inner.Walking.{setting_of, point_of, Keeps, Begun, Ran}
+use Rattle.one_thread.specs.Walking.{setting_of, point_of, Keeps, Begun, Ran}
 use Rattle.one_thread.specs.inner.Subthreads.{at_work, body_from, data_from, RanWith}
 use Rattle.one_thread.proofs.Steps.{stays}
 use Rattle.one_thread.proofs.Walks.{keeps_on, same_setting}

@@ -11,7 +11,7 @@ use Rattle.task_ast.specs.View.{plain_task, plain_program, plain_stmts, plain_bl
 use Rattle.task_ast.proofs.Arms.{some_is}
 use Rattle.one_thread.specs.declared.walk.Walk.{Walk}
 use Rattle.one_thread.specs.inner.Remaining.{left_of}
-use Rattle.one_thread.specs.inner.Runs.{slots_of, registers_at, IsNew}
+use Rattle.one_thread.specs.Runs.{slots_of, registers_at, IsNew}
 use Rattle.one_thread.proofs.Lefts.{statements-block}
 
 -- the task of a number, and the names of its registers

@@ -8,6 +8,7 @@ use Rattle.one_thread.specs.declared.turns.Turn.TheVariants as here
 use Rattle.task_ast.specs.Turn.{next_issue, turns_left, Turn, Needs, Ended, deadlocked, look, turn, tried, stand_of, met, arrived, come_to, at_barrier, released_at, issuing, passing}
 use Rattle.task_ast.specs.meaning.Repeat.{go_on}
 use Rattle.task_ast.specs.declared.sync.Next.{Next}
+use Rattle.task_ast.specs.declared.sync.SyncOp.{SyncOp}
 use Rattle.task_ast.specs.declared.sync.SyncOp.TheVariants as sync_op
 use Rattle.task_ast.specs.meaning.Repeat.{Again, Done}
 use Rattle.task_ast.specs.meaning.Table.{Stand, Away, Waits, Released, ring, numbers}
@@ -17,7 +18,7 @@ use Rattle.task_ast.specs.meaning.Turn.{is_away}
 use Rattle.std.proofs.lemmas.Bool.{false≢true, le-leb, lt-leb}
 use Rattle.one_thread.specs.declared.seats.Table.{Table as Ring}
 use Rattle.one_thread.specs.declared.seats.Seat.{Seat}
-use Rattle.one_thread.specs.inner.View.{table_of, seat_of, gives, gave}
+use Rattle.one_thread.specs.View.{table_of, seat_of, gives, gave}
 use Rattle.task_ast.specs.Looking.{is_free_to_go}
 use Rattle.task_ast.proofs.SeenSeats.{LooksAt, next-at, passed-at, stand-at, arrived_next, opened, opened_next}
 
@@ -165,3 +166,19 @@ last-turn (here.Issue t next child) after goes = refl
 last-turn here.Pass after goes = absurd (goes refl)
 last-turn (here.Needs t) after goes = refl
 last-turn (here.Ended e) after goes = refl
+
+-- a synchronisation that no rule keeps from it begins a subthread
+pub tried-issues : (op : SyncOp) (table : Table) (t : ℕ) (next : Next) → ((lock : ℕ) → op ≡ sync_op.Lock lock → ⊥)
+    → ((task : ℕ) (arguments : List ℤ) → op ≡ sync_op.Fork task arguments → ⊥) → ((h : ℤ) → op ≡ sync_op.Join h → ⊥)
+    → ((barrier : ℕ) → op ≡ sync_op.Barrier barrier → ⊥) → (op ≡ sync_op.BadIndex → ⊥) → (op ≡ sync_op.Spent → ⊥)
+    → tried op table t next ≡ issuing table t next
+tried-issues sync_op.Start table t next lock fork join barrier index spent = refl
+tried-issues (sync_op.Unlock l) table t next lock fork join barrier index spent = refl
+tried-issues (sync_op.Settle register control) table t next lock fork join barrier index spent = refl
+tried-issues sync_op.End table t next lock fork join barrier index spent = refl
+tried-issues (sync_op.Lock l) table t next lock fork join barrier index spent = absurd (lock l refl)
+tried-issues (sync_op.Fork task arguments) table t next lock fork join barrier index spent = absurd (fork task arguments refl)
+tried-issues (sync_op.Join h) table t next lock fork join barrier index spent = absurd (join h refl)
+tried-issues (sync_op.Barrier b) table t next lock fork join barrier index spent = absurd (barrier b refl)
+tried-issues sync_op.BadIndex table t next lock fork join barrier index spent = absurd (index refl)
+tried-issues sync_op.Spent table t next lock fork join barrier index spent = absurd (spent refl)

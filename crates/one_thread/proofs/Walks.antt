@@ -24,7 +24,7 @@ use Rattle.one_thread.specs.declared.walk.Went.{Went}
 use Rattle.one_thread.specs.declared.walk.Went.TheVariants as went
 use Rattle.one_thread.specs.inner.Remaining.{left_of, rest_of}
 use Rattle.one_thread.specs.inner.Working.{recorded, all_worked}
-use Rattle.one_thread.specs.inner.Walking.{setting_of, point_of, Keeps, LeadsTo, Stepped, GoesOn, Came, Halted, Ran}
+use Rattle.one_thread.specs.Walking.{setting_of, point_of, Keeps, LeadsTo, Stepped, GoesOn, Came, Halted, Ran}
 use Rattle.one_thread.proofs.Steps.{stays}
 
 -- blocks that are done are left before a step

@@ -1,15 +1,12 @@
 -- The plain run that the code gives.
-use Rattle.std.specs.Prelude.{◌≡◌, List, map}
+use Rattle.std.specs.Prelude.{◌≡◌, map}
 use Rattle.gp_base.specs.declared.limits.Limits.{Limits}
 use Rattle.gp_base.specs.declared.feed.Inputs.{Inputs}
 use Rattle.task_ast.specs.meaning.Tree.{Program}
-use Rattle.task_ast.specs.meaning.Control.{Point}
-use Rattle.task_ast.specs.Table.{Table}
 use Rattle.task_ast.specs.meaning.Plain.{Subthread, foot_of}
 use Rattle.task_ast.specs.Plain.{order, end, final_records}
 use Rattle.one_thread.specs.declared.run.Step.{Step}
 use Rattle.one_thread.specs.declared.run.PlainRun.{PlainRun}
-use Rattle.one_thread.specs.declared.standing.Standing.{Standing}
 
 -- what the code says of a subthread
 abbrev pub shown : Subthread → Step
@@ -20,9 +17,3 @@ pub record IsPlainRun (program : Program) (inputs : Inputs) (limits : Limits) (r
   pub order : run.order ≡ map shown (order program inputs limits)
   pub records : run.records ≡ final_records program inputs limits
   pub end : run.end ≡ end program inputs limits
-
--- the threads of a table stand so, at these points
-pub record Stands (table : Table) (points : List Point) (standing : Standing) : Type 0 where
-  pub nexts : standing.nexts.items ≡ map (λ seat. seat.next) table.seats
-  pub owners : standing.owners.items ≡ table.owners
-  pub names : standing.names.items ≡ map (λ point. point.names) points

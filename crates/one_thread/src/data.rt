@@ -2,7 +2,7 @@
 ghost use Rattle.std.specs.Prelude.{◌≡◌, ℤ, ◌≤◌, List, map, is_some, option_map, unwrap_or, pos, zip, IfOk, OnOk, Some};
 ghost use Rattle.std.specs.Ordering.{int_eq};
 ghost use Rattle.task_ast.specs.meaning.Names.{slot, records_of, cells_in, cell_number};
-ghost use Rattle.task_ast.specs.meaning.Value.{value, value_at, value_on};
+ghost use Rattle.task_ast.specs.meaning.Value.{value, value_at, value_on, branch};
 ghost use Rattle.task_ast.specs.meaning.Action.{of_registers};
 ghost use Rattle.task_ast.specs.meaning.Control.{action, arm, all_of};
 ghost use Rattle.task_ast.specs.View.{plain_expr, plain_exprs, plain_links, plain_what, plain_stmts, plain_block};
@@ -212,6 +212,13 @@ pub fn is_zero(v: i64) -> bool
     v == 0
 }
 
+/// The block of a choice that a value takes: the first unless it is 0.
+pub fn taken<'a>(v: i64, first: &'a [Stmt], second: &'a [Stmt]) -> &'a [Stmt]
+    ensures { result.now ≡ branch v first.now second.now }
+{
+    if v == 0 { second } else { first }
+}
+
 /// Records the record cells that a data statement names, of a choice those of both arms.
 #[cycle(noting)]
 #[tactic(auto, using(task_ast::proofs::Views::view), unfolding(task_ast::specs::View::plain_what, task_ast::specs::View::plain_stmt))]
@@ -234,8 +241,7 @@ pub fn note(what: &What, program: &Checked, env: &Env, named: &mut Names) -> Res
         }
         What::When(_, first, second) => {
             note_all(first.as_slice(), program, env, named)?;
-            note_all(second.as_slice(), program, env, named)?;
-            Ok(())
+            note_all(second.as_slice(), program, env, named)
         }
         _ => Ok(()),
     }
@@ -296,7 +302,7 @@ pub fn perform<R: Reckon>(
             Ok(())
         }
         What::Print(es) => {
-            if let Some(line) = line_of(
+            match line_of(
                 alloc,
                 reckon,
                 es.as_slice(),
@@ -304,21 +310,16 @@ pub fn perform<R: Reckon>(
                 env,
                 data.registers.as_slice(),
             )? {
-                data.lines.push(line)?;
+                Some(line) => data.lines.push(line),
+                None => Ok(()),
             }
-            Ok(())
         }
         What::When(e, first, second) => {
             match reckon.of_data(e, names, env, data.registers.as_slice()) {
                 None => Ok(()),
                 Some(v) => {
-                    if is_zero(v) {
-                        perform_all(alloc, reckon, second.as_slice(), program, names, env, data)?;
-                        Ok(())
-                    } else {
-                        perform_all(alloc, reckon, first.as_slice(), program, names, env, data)?;
-                        Ok(())
-                    }
+                    let block = taken(v, first.as_slice(), second.as_slice());
+                    perform_all(alloc, reckon, block, program, names, env, data)
                 }
             }
         }

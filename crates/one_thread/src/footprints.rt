@@ -2,7 +2,7 @@
 ghost use Rattle.std.specs.Prelude.{◌≡◌, ◌∷◌, ◌++◌, map, IfOk, OnOk};
 ghost use Rattle.gp_base.specs.declared.footprint.Loc.TheVariants as loc;
 ghost use Rattle.task_ast.specs.meaning.Footprint.{joined_registers, child_registers};
-ghost use Rattle.one_thread.specs.inner.Moves.{foot_with};
+ghost use Rattle.one_thread.specs.Moves.{foot_with};
 
 use crate::names::Names;
 use crate::turns::thread_number;

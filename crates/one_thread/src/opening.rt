@@ -6,7 +6,7 @@ ghost use Rattle.task_ast.specs.meaning.State.{number_at};
 ghost use Rattle.task_ast.specs.meaning.Table.{numbers};
 ghost use Rattle.task_ast.specs.Plain.{opening};
 ghost use Rattle.task_ast.specs.View.{plain_program};
-ghost use Rattle.one_thread.specs.inner.Runs.{slots_of, Holds, IsSmall};
+ghost use Rattle.one_thread.specs.Runs.{slots_of, Holds, IsSmall};
 ghost use Rattle.one_thread.specs.inner.Start.{IsFirst};
 ghost use Rattle.lock_checker.specs.Accepted.{program_of};
 

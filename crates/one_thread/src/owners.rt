@@ -4,7 +4,7 @@ ghost use Rattle.task_ast.specs.Table.{owner_in};
 ghost use Rattle.task_ast.specs.LockLists.{with_lock, held_at};
 ghost use Rattle.task_ast.specs.meaning.Table.{owned_from};
 ghost use Rattle.task_ast.specs.meaning.Turn.{owners_after};
-ghost use Rattle.one_thread.specs.inner.Holding.{after_change, AreHeld};
+ghost use Rattle.one_thread.specs.Holding.{after_change, AreHeld};
 
 use gp_base::Seq;
 use std::alloc::{AllocError, Global};

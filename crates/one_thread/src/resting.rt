@@ -3,7 +3,7 @@ ghost use Rattle.std.specs.Prelude.{◌≡◌, ◌<◌, ◌≤◌, false, length
 ghost use Rattle.task_ast.specs.Table.{next_of};
 ghost use Rattle.task_ast.specs.Turn.{turns_left, next_issue};
 ghost use Rattle.one_thread.specs.inner.Resting.{stalls, rests, RestBetween};
-ghost use Rattle.one_thread.specs.inner.View.{table_of, WalksStand};
+ghost use Rattle.one_thread.specs.View.{table_of, WalksStand};
 
 use crate::seats::{Stand, Table};
 use crate::sleeping::keep;

@@ -5,11 +5,11 @@ ghost use Rattle.gp_base.specs.declared.feed.Inputs.{Inputs as InputsThere};
 ghost use Rattle.task_ast.specs.Plain.{Plain};
 ghost use Rattle.task_ast.specs.View.{plain_program};
 ghost use Rattle.lock_checker.specs.Accepted.{program_of};
-ghost use Rattle.one_thread.specs.inner.Holding.{AreHeld};
-ghost use Rattle.one_thread.specs.inner.View.{WalksStand};
-ghost use Rattle.one_thread.specs.inner.Runs.{slots_of, AreSound, Holds, IsSmall};
+ghost use Rattle.one_thread.specs.Holding.{AreHeld};
+ghost use Rattle.one_thread.specs.View.{WalksStand};
+ghost use Rattle.one_thread.specs.Runs.{slots_of, AreSound, Holds, IsSmall};
 ghost use Rattle.one_thread.specs.PlainRuns.{IsPlainRun};
-ghost use Rattle.one_thread.specs.inner.Moves.{Stepped, Follows};
+ghost use Rattle.one_thread.specs.Moves.{foot_with, Stepped, Follows};
 
 use crate::footprints::footprint;
 use crate::opening::all_registers;
@@ -20,7 +20,7 @@ use crate::work::{Shared, Told};
 use gp_base::{End, Footprint, Inputs, Limits, Lines, LockNo, Nums, Seq, ThreadNo};
 use lock_checker::Checked;
 use std::alloc::{AllocError, Global};
-use task_ast::Next;
+use task_ast::{Next, SyncOp};
 
 /// One subthread of the order: its thread, the synchronisation that it begins with, the locks that its thread then
 /// holds, what it reads and writes, and the lines that it prints.
@@ -68,6 +68,49 @@ fn locks_of(alloc: Global, held: &[u32]) -> Result<Seq<LockNo>, AllocError>
     Ok(locks)
 }
 
+impl Trace {
+    // What is told of a subthread that was performed, whose thread then held these locks.
+    fn of(
+        alloc: Global,
+        t: usize,
+        begins: &SyncOp,
+        child: Option<usize>,
+        held: Seq<LockNo>,
+        told: Told,
+    ) -> Result<Trace, AllocError>
+        ensures { IfOk result (λ trace. trace ≡ record { thread = t; held = held; foot = foot_with t begins.now child told.named; prints = told.lines }) }
+    {
+        let thread = thread_number(t)?;
+        let foot = footprint(alloc, t, begins, child, &told.named)?;
+        let Told { lines: prints, .. } = told;
+        Ok(Trace {
+            thread,
+            held,
+            foot,
+            prints,
+        })
+    }
+
+    // The subthread, with the synchronisation that it begins with.
+    fn begun_by(self, begins: Next) -> Step
+        ensures { result ≡ record { thread = self.thread; begins = begins; held = self.held; foot = self.foot; prints = self.prints } }
+    {
+        let Trace {
+            thread,
+            held,
+            foot,
+            prints,
+        } = self;
+        Step {
+            thread,
+            begins,
+            held,
+            foot,
+            prints,
+        }
+    }
+}
+
 impl Run<'_> {
     // One subthread, and what is told of it.
     fn trace<R: Reckon>(
@@ -87,52 +130,10 @@ impl Run<'_> {
         requires walks { WalksStand self.old.table }
         ensures { IfOk result (λ trace. Stepped self.old t begins.now child (record { thread = trace.thread; begins = begins.now; held = trace.held; foot = trace.foot; prints = trace.prints }) self.new) }
     {
-        let thread = thread_number(t)?;
         let held = locks_of(alloc, self.table.owners.held_by(t))?;
         reckon.begin();
         let told = self.perform(alloc, reckon, t, begins, child)?;
-        let foot = footprint(alloc, t, &begins.sync, child, &told.named)?;
-        let Told { lines: prints, .. } = told;
-        Ok(Trace {
-            thread,
-            held,
-            foot,
-            prints,
-        })
-    }
-
-    // One subthread, whose synchronisation the table knows.
-    fn step<R: Reckon>(
-        &mut self,
-        alloc: Global,
-        reckon: &mut R,
-        t: usize,
-        begins: Next,
-        child: Option<usize>,
-    ) -> Result<Step, AllocError>
-        requires exists { t < length self.old.threads.items }
-        requires seated { t < length self.old.table.seats.items }
-        requires small { IsSmall (program_of self.old.program.now) }
-        requires slots { self.old.slots.now ≡ map slots_of (program_of self.old.program.now).tasks }
-        requires sound { AreSound (program_of self.old.program.now) self.old.threads.items }
-        requires held { AreHeld self.old.table.owners.owners.items self.old.table.owners.held.items }
-        requires walks { WalksStand self.old.table }
-        ensures { IfOk result (λ step. Stepped self.old t begins child step self.new) }
-    {
-        let trace = self.trace(alloc, reckon, t, &begins, child)?;
-        let Trace {
-            thread,
-            held,
-            foot,
-            prints,
-        } = trace;
-        Ok(Step {
-            thread,
-            begins,
-            held,
-            foot,
-            prints,
-        })
+        Trace::of(alloc, t, &begins.sync, child, held, told)
     }
 
     /// The next subthread, or the end.
@@ -147,8 +148,8 @@ impl Run<'_> {
     {
         match self.table.next_issue(alloc)? {
             Turn::Issue(t, begins, child) => {
-                let step = self.step(alloc, reckon, t, begins, child)?;
-                Ok(Move::Goes(step))
+                let trace = self.trace(alloc, reckon, t, &begins, child)?;
+                Ok(Move::Goes(trace.begun_by(begins)))
             }
             Turn::Ended(end) => Ok(Move::Ends(end)),
             Turn::Needs(_) => Ok(Move::Ends(End::Finished)),

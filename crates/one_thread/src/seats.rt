@@ -4,9 +4,9 @@ ghost use Rattle.task_ast.specs.Looking.{look_of};
 ghost use Rattle.task_ast.specs.meaning.Table.{numbers, ring};
 ghost use Rattle.task_ast.specs.Table.{next_of, learning, unpassed, is_known_end};
 ghost use Rattle.task_ast.specs.Turn.{look};
-ghost use Rattle.one_thread.specs.inner.Holding.{AreHeld};
+ghost use Rattle.one_thread.specs.Holding.{AreHeld};
 ghost use Rattle.ended_seats.specs.Idle.{is_idle, IdleBetween, IdleOver, Uncovered, PassedWithin};
-ghost use Rattle.one_thread.specs.inner.View.{table_of, seat_of, onward_of, WalksStand};
+ghost use Rattle.one_thread.specs.View.{table_of, seat_of, onward_of, WalksStand};
 
 use crate::owners::Owners;
 use crate::sleeping::wake;

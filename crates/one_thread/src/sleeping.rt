@@ -2,7 +2,7 @@
 // Ways over them are kept from one turn to the next.
 ghost use Rattle.std.specs.Prelude.{◌≡◌, ◌≢◌, ℕ, ◌<◌, ◌≤◌, length, map, OnOk};
 ghost use Rattle.one_thread.specs.inner.Sleeping.{sleeps, way_at, SleepBetween, SleepOver, IsUncrossed};
-ghost use Rattle.one_thread.specs.inner.View.{seat_of, WalksStand};
+ghost use Rattle.one_thread.specs.View.{seat_of, WalksStand};
 
 use crate::seats::{Seat, Stand, Table};
 use std::alloc::AllocError;

@@ -3,8 +3,8 @@ ghost use Rattle.std.specs.Prelude.{◌≡◌, ◌<◌, ◌≤◌, map, length, 
 ghost use Rattle.task_ast.specs.declared.sync.Next.{Next as NextThere};
 ghost use Rattle.task_ast.specs.meaning.State;
 ghost use Rattle.one_thread.specs.inner.Subthreads.{settled};
-ghost use Rattle.one_thread.specs.inner.View.{WalksStand};
-ghost use Rattle.one_thread.specs.inner.Runs.{slots_of, registers_at, joined_of, AreSound, IsNew, Forks, Performed, IsSmall};
+ghost use Rattle.one_thread.specs.View.{WalksStand};
+ghost use Rattle.one_thread.specs.Runs.{slots_of, registers_at, joined_of, AreSound, IsNew, Forks, Performed, IsSmall};
 ghost use Rattle.lock_checker.specs.Accepted.{program_of};
 
 use crate::data::Data;

@@ -8,9 +8,9 @@ ghost use Rattle.task_ast.specs.meaning.Table.{numbers};
 ghost use Rattle.task_ast.specs.Table.{next_of, waits_at, is_known_end};
 ghost use Rattle.task_ast.specs.meaning.Turn.{child_of};
 ghost use Rattle.task_ast.specs.Turn.{turn, next_issue, tried, issuing, passing, look, seats_after, deadlocked, met, arrived, released_at};
-ghost use Rattle.one_thread.specs.inner.Holding.{AreHeld};
+ghost use Rattle.one_thread.specs.Holding.{AreHeld};
 ghost use Rattle.ended_seats.specs.Idle.{IdleOver, onward_after};
-ghost use Rattle.one_thread.specs.inner.View.{table_of, seat_of, onward_of, gives, gave, Halts, WalksStand};
+ghost use Rattle.one_thread.specs.View.{table_of, seat_of, onward_of, gives, gave, Halts, WalksStand};
 
 use crate::seats::{Passed, Seat, Stand, Table, clear, new_seat};
 use crate::sleeping::wake;
@@ -312,10 +312,7 @@ impl Table {
             }
             SyncOp::BadIndex => stuck(Why::Index, t, line),
             SyncOp::Spent => Ok(Turn::Ended(End::Spent(Pos(last)))),
-            SyncOp::Start => self.issue(alloc, t),
-            SyncOp::Unlock(_) => self.issue(alloc, t),
-            SyncOp::Settle { .. } => self.issue(alloc, t),
-            SyncOp::End => self.issue(alloc, t),
+            _ => self.issue(alloc, t),
         }
     }
 

@@ -1,6 +1,6 @@
 // The walk of one thread over its task's statements.
-ghost use Rattle.std.specs.Prelude.{◌≡◌, ◌≤◌, ◌^◌, ℕ, ℤ, IsTrue, List, Option, Some, is_some, [], ◌∷◌, ◌++◌, position, IfOk, OnOk};
-ghost use Rattle.task_ast.specs.meaning.Names.{is_task, is_name, locks_of, records_of, barriers_of, cells_in, registers_of};
+ghost use Rattle.std.specs.Prelude.{◌≡◌, ◌≤◌, ◌^◌, ℕ, ℤ, IsTrue, List, Option, Some, None, is_some, option_map, option_and_then, [], ◌∷◌, ◌++◌, position, IfOk, IfNone, IfSome, OnOk};
+ghost use Rattle.task_ast.specs.meaning.Names.{is_task, is_name, locks_of, records_of, barriers_of, cells_in, registers_of, task_named, task_number};
 ghost use Rattle.task_ast.specs.meaning.Tree as plain;
 ghost use Rattle.task_ast.specs.meaning.Tree.{Name as PlainName};
 ghost use Rattle.task_ast.specs.declared.sync.SyncOp.TheVariants as sync;
@@ -10,11 +10,13 @@ ghost use Rattle.task_ast.specs.Shaped.{is_data};
 ghost use Rattle.task_ast.specs.meaning.Action.{Action};
 ghost use Rattle.one_thread.specs.inner.Working.{all_worked};
 ghost use Rattle.one_thread.specs.inner.Remaining.{left_of, rest_of};
-ghost use Rattle.one_thread.specs.inner.Walking.{setting_of, point_of, LeadsTo, Stepped, Came, Halted, Ran, Begun, Gives};
+ghost use Rattle.one_thread.specs.Walking.{setting_of, point_of, LeadsTo, Stepped, Came, Halted, Ran, Begun, Gives};
 ghost use Rattle.lock_checker.specs.Accepted.{program_of};
 
 use crate::cells::{barrier_number, lock_number, same_name};
-use crate::data::{Data, fits, has_value, index_of, is_zero, note, perform, register_number};
+use crate::data::{
+    Data, fits, has_value, index_of, is_zero, note, perform, register_number, taken,
+};
 use crate::left::Left;
 use crate::reckoning::{Plainly, Reckon};
 use crate::variables::{register_names, set_number, variable_number, with_value, zeros};
@@ -144,6 +146,36 @@ fn give<R: Reckon>(
     }
 }
 
+// The task of this name, with its number.
+fn named_task<'a>(program: &'a Checked, name: &Name) -> Option<(usize, &'a TaskText)>
+    ensures none { IfNone result (task_named (plain_program (program_of program.now)) name.now ≡ None) }
+    ensures number { IfSome result (λ found. task_number (plain_program (program_of program.now)) name.now ≡ Some found.0) }
+    ensures task { IfSome result (λ found. task_named (plain_program (program_of program.now)) name.now ≡ Some (plain_task found.1.now)) }
+{
+    let tasks = program.program().tasks.as_slice();
+    match task_place(tasks, name) {
+        Some(k) => Some((k, &tasks[k])),
+        None => None,
+    }
+}
+
+// The values of a fork's control arguments, or `None` where an argument has none.
+fn fork_values<R: Reckon>(
+    alloc: Global,
+    reckon: &mut R,
+    params: &[Param],
+    es: &[Expr],
+    env: &Env,
+) -> Result<Option<Nums>, AllocError>
+    ensures { IfOk result (λ values. (s : Setting) (given registers : List PlainName) → values
+        ≡ option_and_then (λ controls. option_map (λ actions. controls) (data_arguments s given registers params.now (plain_exprs es.now) env.now)) (control_arguments params.now (plain_exprs es.now) env.now)) }
+{
+    if !data_fits(params, es, env) {
+        return Ok(None);
+    }
+    control_values(alloc, reckon, params, es, env)
+}
+
 impl<'a> Walk<'a> {
     // A statement that sets a control variable.
     fn set_control<R: Reckon>(
@@ -203,13 +235,8 @@ impl<'a> Walk<'a> {
             None => Ok(fault(line)),
             Some(v) => {
                 self.left.pass();
-                if is_zero(v) {
-                    self.left.enter(second)?;
-                    Ok(Went::On)
-                } else {
-                    self.left.enter(first)?;
-                    Ok(Went::On)
-                }
+                self.left.enter(taken(v, first, second))?;
+                Ok(Went::On)
             }
         }
     }
@@ -219,23 +246,13 @@ impl<'a> Walk<'a> {
         requires clean { self.now.env.regs ≡ [] }
         ensures { IfOk result (λ went. (into : Option PlainName) → Stepped (step_at (setting_of self.now) line (plain.Fork t.now (plain_exprs es.now) into) (rest_of self.now.left) (point_of self.now)) went self.now self.now) }
     {
-        let Some(k) = task_place(self.program.program().tasks.as_slice(), t) else {
+        let Some((k, task)) = named_task(self.program, t) else {
             return Ok(fault(line));
         };
-        let params = self.program.program().tasks.as_slice()[k].params.as_slice();
-        let Some(args) = control_values(alloc, &mut Plainly, params, es, &self.env)? else {
-            return Ok(fault(line));
-        };
-        if data_fits(params, es, &self.env) {
-            Ok(stop(
-                SyncOp::Fork {
-                    task: number(k)?,
-                    args,
-                },
-                line,
-            ))
-        } else {
-            Ok(fault(line))
+        let k = number(k)?;
+        match fork_values(alloc, &mut Plainly, task.params.as_slice(), es, &self.env)? {
+            Some(args) => Ok(stop(SyncOp::Fork { task: k, args }, line)),
+            None => Ok(fault(line)),
         }
     }
 
@@ -340,11 +357,7 @@ impl<'a> Walk<'a> {
             },
             What::Barrier(b) => self.barrier(b, line),
             What::Settle(x, c) => self.settle(x, c, line),
-            What::SetReg(_, _) => self.act(alloc, reckon, &s.what, line),
-            What::Read(_, _, _) => self.act(alloc, reckon, &s.what, line),
-            What::Write(_, _, _) => self.act(alloc, reckon, &s.what, line),
-            What::Print(_) => self.act(alloc, reckon, &s.what, line),
-            What::When(_, _, _) => self.act(alloc, reckon, &s.what, line),
+            _ => self.act(alloc, reckon, &s.what, line),
         }
     }
 
@@ -409,15 +422,11 @@ impl<'a> Walk<'a> {
         requires clean { self.old.env.regs ≡ [] }
         ensures { OnOk result (Gives (fork_named (setting_of self.old) t.now (plain_exprs es.now) (point_of self.old)) self.old self.new) }
     {
-        let Some(k) = task_place(self.program.program().tasks.as_slice(), t) else {
+        let Some((_, task)) = named_task(self.program, t) else {
             return Ok(());
         };
-        let task = &self.program.program().tasks.as_slice()[k];
         let params = task.params.as_slice();
-        let Some(_values) = control_values(alloc, reckon, params, es, &self.env)? else {
-            return Ok(());
-        };
-        if !data_fits(params, es, &self.env) {
+        if fork_values(alloc, reckon, params, es, &self.env)?.is_none() {
             return Ok(());
         }
         let given = register_names(alloc, task)?;
@@ -488,22 +497,10 @@ impl<'a> Walk<'a> {
             What::Fork(t, es, into) => {
                 reckon.at(s.line);
                 self.give_registers(alloc, reckon, t, es.as_slice())?;
-                self.begin_fork(alloc, into, child)?;
-                Ok(())
+                self.begin_fork(alloc, into, child)
             }
             What::Join(_, into) => Ok(self.begin_join(into, joined)),
-            What::SetCtl(_, _) => Ok(self.left.pass()),
-            What::While(_, _) => Ok(self.left.pass()),
-            What::If(_, _, _) => Ok(self.left.pass()),
-            What::Lock(_, _) => Ok(self.left.pass()),
-            What::Unlock(_, _) => Ok(self.left.pass()),
-            What::Barrier(_) => Ok(self.left.pass()),
-            What::Settle(_, _) => Ok(self.left.pass()),
-            What::SetReg(_, _) => Ok(self.left.pass()),
-            What::Read(_, _, _) => Ok(self.left.pass()),
-            What::Write(_, _, _) => Ok(self.left.pass()),
-            What::Print(_) => Ok(self.left.pass()),
-            What::When(_, _, _) => Ok(self.left.pass()),
+            _ => Ok(self.left.pass()),
         }
     }
 }

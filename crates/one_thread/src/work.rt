@@ -3,7 +3,7 @@ ghost use Rattle.std.specs.Prelude.{◌≡◌, ◌≤◌, [], IfOk, OnOk};
 ghost use Rattle.task_ast.specs.meaning.Names.{locks_of, records_of, cells_in, registers_of};
 ghost use Rattle.task_ast.specs.View.{plain_task};
 ghost use Rattle.task_ast.specs.meaning.Control.{first_actions, beginning};
-ghost use Rattle.one_thread.specs.inner.Walking.{setting_of, point_of, Begun};
+ghost use Rattle.one_thread.specs.Walking.{setting_of, point_of, Begun};
 ghost use Rattle.one_thread.specs.inner.Subthreads.{at_work, RanWith};
 ghost use Rattle.lock_checker.specs.Accepted.{program_of};
 

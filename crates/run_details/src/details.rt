@@ -3,12 +3,13 @@
 use crate::halted::Halted;
 use crate::indices::{env_of, push_index};
 use gp_base::{LockNo, Name, ThreadNo, Why};
-use one_thread::{Standing, Step};
+use one_thread::Step;
 use run_counts::Loop;
 use run_hints::{
     Place, plural, push_alike, push_arrivals, push_chain, push_circle, push_ended, push_forks,
     push_gathered, push_kept, push_loops, push_names, push_own_join, put_controls, statements_of,
 };
+use run_standing::Standing;
 use run_views::{push_between, push_lock};
 use std::alloc::{AllocError, Global};
 use task_ast::{Head, Next, SyncOp, TaskText, What};

@@ -2,12 +2,13 @@
 
 use call_cases::Request;
 use gp_base::{Name, ThreadNo};
-use one_thread::{Standing, Step, run_reckoned};
+use one_thread::{Step, run_reckoned};
 use run_counts::Loop;
 use run_hints::{
     Branches, LoopTurns, Place, Tasks, is_given, loops_at, push_bound, push_conditions,
     push_forked, push_names, push_settled,
 };
+use run_standing::Standing;
 use std::alloc::{AllocError, Global};
 use task_ast::{Env, Program, TaskText};
 

@@ -1,7 +1,7 @@
 // Threads that wait for one another's locks in a circle.
 
 use gp_base::LockNo;
-use one_thread::Standing;
+use run_standing::Standing;
 use run_views::push_lock;
 use std::alloc::{AllocError, Global};
 use task_ast::{Head, SyncOp};

@@ -3,7 +3,8 @@
 use crate::arrivals::{arrivals_at, is_waited_at};
 use crate::words::{at, push_stretch};
 use gp_base::Name;
-use one_thread::{Standing, Step};
+use one_thread::Step;
+use run_standing::Standing;
 use run_views::push_between;
 use std::alloc::{AllocError, Global};
 use task_ast::{Head, Next, SyncOp, natural};

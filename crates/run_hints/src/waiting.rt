@@ -2,7 +2,7 @@
 
 use crate::words::{push_counted, push_stretch};
 use gp_base::{LockNo, Name};
-use one_thread::Standing;
+use run_standing::Standing;
 use run_views::{push_between, push_labelled, push_lock};
 use std::alloc::{AllocError, Global};
 use task_ast::{Head, Next, SyncOp};

@@ -13,8 +13,9 @@ use Rattle.task_ast.specs.laws.Runs.{seat_for, plain_for}
 use Rattle.task_ast.proofs.PlainRuns.{count_law}
 use Rattle.task_ast.proofs.Runs.{order-is, before-is, end-is}
 use Rattle.one_thread.specs.declared.run.PlainRun.{PlainRun}
-use Rattle.one_thread.specs.declared.standing.Standing.{Standing}
-use Rattle.one_thread.specs.PlainRuns.{IsPlainRun, Stands, shown}
+use Rattle.one_thread.specs.PlainRuns.{IsPlainRun, shown}
+use Rattle.run_standing.specs.declared.standing.Standing.{Standing}
+use Rattle.run_standing.specs.Standings.{Stands}
 use Rattle.run_views.specs.meaning.Waits.{nexts_in}
 use Rattle.run_views.specs.meaning.Deadlocks.{standing_text}
 

@@ -7,7 +7,7 @@ ghost use Rattle.run_views.specs.meaning.Deadlocks.{threads_at, are_text, gather
 use crate::names::{push_between, push_labelled, push_number};
 use crate::waits::push_waits;
 use gp_base::Name;
-use one_thread::Standing;
+use run_standing::Standing;
 use std::alloc::{AllocError, Global};
 use task_ast::{Head, Next, SyncOp, natural};
 

@@ -16,7 +16,8 @@ use crate::deadlocks::push_standing;
 use crate::names::{push_between, push_labelled, push_named_barrier, push_named_lock, push_number};
 use gp_base::{End, Footprint, Inputs, Limits, Loc, LockNo, Seq, Text, ThreadNo, Why};
 use lock_checker::Checked;
-use one_thread::{PlainRun, Step, run_plain, stand_before};
+use one_thread::{PlainRun, Step, run_plain};
+use run_standing::stand_before;
 use std::alloc::{AllocError, Global};
 use task_ast::{Head, SyncOp};
 

@@ -6,7 +6,7 @@ use Rattle.task_ast.specs.declared.sync.Next.{Next}
 use Rattle.task_ast.specs.Table.{Seat, Table, next_of, owner_in, unpassed}
 use Rattle.task_ast.specs.Turn.{stand_of}
 use Rattle.task_ast.specs.meaning.Table.{is_end, is_waiting}
-use Rattle.one_thread.specs.inner.View.{token_of}
+use Rattle.one_thread.specs.View.{token_of}
 
 -- whether a next synchronisation is known, and is not the end
 abbrev pub is_going : Option Next → Bool

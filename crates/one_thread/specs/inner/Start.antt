@@ -5,7 +5,7 @@ use Rattle.task_ast.specs.meaning.Names.{registers_of}
 use Rattle.task_ast.specs.meaning.Plain.{task_at, main_number}
 use Rattle.task_ast.specs.View.{plain_program}
 use Rattle.one_thread.specs.declared.walk.Walk.{Walk}
-use Rattle.one_thread.specs.inner.Runs.{IsNew}
+use Rattle.one_thread.specs.Runs.{IsNew}
 
 -- a thread at the start of the task `main`, whose registers are 0
 abbrev pub IsFirst : Code → Walk → Type 0

@@ -13,7 +13,7 @@ use Rattle.one_thread.specs.declared.walk.Walk.{Walk}
 use Rattle.one_thread.specs.declared.work.Shared.{Shared}
 use Rattle.one_thread.specs.declared.work.Done.{Done}
 use Rattle.one_thread.specs.inner.Working.{all_worked}
-use Rattle.one_thread.specs.inner.Walking.{setting_of, point_of}
+use Rattle.one_thread.specs.Walking.{setting_of, point_of}
 
 -- its control variables, of which a settle has set one to the value of a register
 abbrev pub settled_names : SyncOp → Walk → List (Name × ℤ)

@@ -9,11 +9,11 @@ use Rattle.task_ast.specs.View.{plain_expr, plain_what, plain_block}
 use Rattle.task_ast.proofs.Views.{stmt_At, what_When}
 use Rattle.one_thread.specs.inner.Working.{setting_in, ArmNotes}
 use Rattle.task_ast.proofs.Arms.{from-here, naming-in-order, Ahead, ahead_on, ahead_start, ahead_end}
-use Rattle.one_thread.proofs.Naming.{notes-choice}
+use Rattle.one_thread.proofs.Naming.{noted, notes-choice}
 use Rattle.one_thread.proofs.data.+noting.Goals as goal
 
-pub note-returns-in_ok-note_all-in-When-2 : goal.note-returns-in_ok-note_all-in-When-2
-note-returns-in_ok-note_all-in-When-2 t c = λ registers a is.
+pub note-returns-in_ok-note_all-in-When : goal.note-returns-in_ok-note_all-in-When
+note-returns-in_ok-note_all-in-When t c = noted c.note_all-in-When.result (λ notes registers a is.
     let s = setting_in c.args.program.now.program c.args.env.now in
     let env = c.args.env.now in
     let before = c.args.named.now in
@@ -22,10 +22,11 @@ note-returns-in_ok-note_all-in-When-2 t c = λ registers a is.
     let one = arm s registers (plain_block c.in-When.first) env in
     let other = arm s registers (plain_block c.in-When.second) env in
     let first : ArmNotes one before between = search (rules, c.in_ok-note_all-in-When.ensures registers) in
-    let second : ArmNotes other between after = search (rules, c.in_ok-note_all-in-When-2.ensures registers) in
+    let second : ArmNotes other between after = search (rules, notes registers) in
     let what = ap plain_what c.in-When.is ∙ what_When c.in-When.field-0 c.in-When.first c.in-When.second in
     notes-choice (of_registers registers (plain_expr c.in-When.field-0) env) one other before between after first second a
-    (sym (ap (λ w. action s registers w env) what) ∙ is)
+    (sym (ap (λ w. action s registers w env) what) ∙ is))
+    c.note_all-in-When.ensures
 
 pub note_all-loop-stmt-init : goal.note_all-loop-stmt-init
 note_all-loop-stmt-init t c = λ registers.

@@ -9,7 +9,7 @@ use Rattle.task_ast.specs.View.{plain_expr, plain_exprs, plain_what, plain_block
 use Rattle.task_ast.proofs.Views.{stmt_At, what_Print, what_When}
 use Rattle.one_thread.specs.inner.Working.{setting_in, worked, arm_worked}
 use Rattle.task_ast.proofs.Arms.{from-here, Ahead, ahead_on, ahead_end}
-use Rattle.one_thread.proofs.Fitting.{work-in-order, said, unsaid, first_works, second_works}
+use Rattle.one_thread.proofs.Fitting.{work-in-order, said_ok, unsaid, block_works}
 use Rattle.one_thread.proofs.data.+performing.Goals as goal
 
 pub perform_all-loop-stmt-preserved : goal.perform_all-loop-stmt-preserved
@@ -39,48 +39,33 @@ perform_all-returns g t c = λ joined a is.
     (ap (λ (l : List Stmt). arm s names (plain_block l) env) (drop_of_length-le block c.loop-stmt-test.false))
     (c.loop-stmt.invariant joined)) a is
 
-pub perform-returns-in_ok-push-in-Print : goal.perform-returns-in_ok-push-in-Print
-perform-returns-in_ok-push-in-Print g t c = λ joined a is.
+pub perform-returns-in-Some-2 : goal.perform-returns-in-Some-2
+perform-returns-in-Some-2 g t c =
     let s = setting_in c.args.program.now.program c.args.env.now in
     let line = rw (c.in-Some-2.is, c.as_slice-in-Print.ensures, c.as_slice-in-Print-2.ensures) at c.in_ok-line-in-Print.ensures in
-    ap (λ l. record c.args.data.now { lines = l }) c.in_ok-push-in-Print.ensures.ok
-    ∙ said (all_of (map (λ e. of_registers c.args.names.now e c.args.env.now) (plain_exprs c.in-Print.es))) c.args.data.now
-    c.in-Some-2.line line joined a
-    (sym (ap (λ w. action s c.args.names.now w c.args.env.now) (ap plain_what c.in-Print.is ∙ what_Print c.in-Print.es)) ∙ is)
+    said_ok c.push.result (all_of (map (λ e. of_registers c.args.names.now e c.args.env.now) (plain_exprs c.in-Print.es)))
+    (action s c.args.names.now (plain_what c.args.what.now) c.args.env.now) c.args.data.now c.in-Some-2.line c.push.new.self
+    (ap (λ w. action s c.args.names.now w c.args.env.now) (ap plain_what c.in-Print.is ∙ what_Print c.in-Print.es)) line c.push.ensures.ok
 
-pub perform-returns-in_default-2 : goal.perform-returns-in_default-2
-perform-returns-in_default-2 g t c = λ joined a is.
+pub perform-returns-in-None : goal.perform-returns-in-None
+perform-returns-in-None g t c = λ joined a is.
     let s = setting_in c.args.program.now.program c.args.env.now in
-    let line = rw (c.in_default-2.is, c.as_slice-in-Print.ensures, c.as_slice-in-Print-2.ensures) at c.in_ok-line-in-Print.ensures in
+    let line = rw (c.in-None.is, c.as_slice-in-Print.ensures, c.as_slice-in-Print-2.ensures) at c.in_ok-line-in-Print.ensures in
     unsaid (all_of (map (λ e. of_registers c.args.names.now e c.args.env.now) (plain_exprs c.in-Print.es))) c.args.data.now
     c.args.data.now line joined a
     (sym (ap (λ w. action s c.args.names.now w c.args.env.now) (ap plain_what c.in-Print.is ∙ what_Print c.in-Print.es)) ∙ is)
 
-pub perform-returns-in_ok-perform_all-in-Some-of_data-2 : goal.perform-returns-in_ok-perform_all-in-Some-of_data-2
-perform-returns-in_ok-perform_all-in-Some-of_data-2 g t c = λ joined act is.
+pub perform-returns-in-Some-of_data-2 : goal.perform-returns-in-Some-of_data-2
+perform-returns-in-Some-of_data-2 g t c =
     let s = setting_in c.args.program.now.program c.args.env.now in
     let names = c.args.names.now in
     let env = c.args.env.now in
     let v = c.in-Some-of_data-2.v in
     let fits : SFits w64 v = search rules in
-    let test = rw (to_z-of_z w64 v fits) at c.if-is_zero.ensures in
     let value = rw c.as_slice-in-When.ensures at c.in-Some-of_data-2.ensures in
-    let does = rw c.as_slice-then-is_zero.ensures at c.in_ok-perform_all-in-Some-of_data-2.ensures in
-    second_works (of_registers names (plain_expr c.in-When.e) env) (arm s names (plain_block c.in-When.first) env)
-    (arm s names (plain_block c.in-When.second) env) c.args.data.now c.perform_all.new.data v (sym test) (sym value) does joined act
-    (sym (ap (λ w. action s names w env) (ap plain_what c.in-When.is ∙ what_When c.in-When.e c.in-When.first c.in-When.second)) ∙ is)
-
-pub perform-returns-in_ok-perform_all-in-Some-of_data-2-2 : goal.perform-returns-in_ok-perform_all-in-Some-of_data-2-2
-perform-returns-in_ok-perform_all-in-Some-of_data-2-2 g t c = λ joined act is.
-    let s = setting_in c.args.program.now.program c.args.env.now in
-    let names = c.args.names.now in
-    let env = c.args.env.now in
-    let v = c.in-Some-of_data-2.v in
-    let fits : SFits w64 v = search rules in
-    let test = rw (to_z-of_z w64 v fits) at c.if-is_zero.ensures in
-    let value = rw c.as_slice-in-When.ensures at c.in-Some-of_data-2.ensures in
-    let does = rw c.as_slice-else-is_zero.ensures at c.in_ok-perform_all-in-Some-of_data-2-2.ensures in
-    first_works (of_registers names (plain_expr c.in-When.e) env) (arm s names (plain_block c.in-When.first) env)
-    (arm s names (plain_block c.in-When.second) env) c.args.data.now c.perform_all-else-is_zero.new.data v (sym test)
-    (sym value) does joined act
-    (sym (ap (λ w. action s names w env) (ap plain_what c.in-When.is ∙ what_When c.in-When.e c.in-When.first c.in-When.second)) ∙ is)
+    let takes = rw (to_z-of_z w64 v fits, c.as_slice-in-Some-of_data-2.ensures, c.as_slice-in-Some-of_data-2-2.ensures) at c.taken-block.ensures in
+    block_works c.perform_all.result (λ (l : List Stmt). arm s names (plain_block l) env) (of_registers names (plain_expr c.in-When.e) env)
+    (action s names (plain_what c.args.what.now) env) c.in-When.first c.in-When.second c.taken-block.result.now c.args.data.now
+    c.perform_all.new.data v
+    (ap (λ w. action s names w env) (ap plain_what c.in-When.is ∙ what_When c.in-When.e c.in-When.first c.in-When.second))
+    takes (sym value) c.perform_all.ensures

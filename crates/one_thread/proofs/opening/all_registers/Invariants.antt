@@ -1,5 +1,5 @@
 use Rattle.std.proofs.Common.{◌≡◌, map, take}
-use Rattle.one_thread.specs.inner.Runs.{slots_of}
+use Rattle.one_thread.specs.Runs.{slots_of}
 use Rattle.one_thread.proofs.opening.all_registers.Given as goal
 
 abbrev pub invariant-loop-task : goal.invariant-loop-task

@@ -4,7 +4,7 @@ use Rattle.task_ast.specs.declared.tree.Program.{Program}
 use Rattle.task_ast.specs.declared.tree.TaskText.{TaskText}
 use Rattle.task_ast.specs.meaning.Names.{is_name}
 use Rattle.task_ast.specs.meaning.Declarations.{main}
-use Rattle.one_thread.specs.inner.Runs.{IsNew}
+use Rattle.one_thread.specs.Runs.{IsNew}
 use Rattle.one_thread.specs.inner.Start.{IsFirst}
 use Rattle.one_thread.proofs.Looking.{at-get}
 use Rattle.one_thread.proofs.Openings.{first-thread}

@@ -1,7 +1,7 @@
 use Rattle.std.proofs.Common.{◌∙◌, ap, sym, subst}
 use Rattle.task_ast.specs.View.{plain_program}
 use Rattle.lock_checker.proofs.BaseLemmas.{accepted_small}
-use Rattle.one_thread.specs.inner.Moves.{Follows, Ahead}
+use Rattle.one_thread.specs.Moves.{Follows, Ahead}
 use Rattle.one_thread.proofs.Running.{ahead-start, ahead-more, ahead-smaller, ahead-ends, follows-here}
 use Rattle.one_thread.proofs.run.run_reckoned.Goals as goal
 

@@ -1,6 +1,6 @@
 use Rattle.std.proofs.Common.{◌-◌}
-use Rattle.one_thread.specs.inner.Runs.{IsSmall}
-use Rattle.one_thread.specs.inner.Moves.{Ahead}
+use Rattle.one_thread.specs.Runs.{IsSmall}
+use Rattle.one_thread.specs.Moves.{Ahead}
 use Rattle.one_thread.proofs.run.run_reckoned.Given as goal
 
 abbrev pub invariant-loop-order : goal.invariant-loop-order

@@ -1,7 +1,7 @@
 use Rattle.std.proofs.Common.{◌∙◌, inl, inr, sym, subst, map, refl, arith}
 use Rattle.std.proofs.lemmas.List.{length-map}
 use Rattle.std.proofs.lemmas.Option.{slice_get-get_or}
-use Rattle.one_thread.specs.inner.View.{seat_of, onward_of}
+use Rattle.one_thread.specs.View.{seat_of, onward_of}
 use Rattle.ended_seats.specs.Idle.{IdleOver}
 use Rattle.ended_seats.proofs.Walks.{Clearing, map-kept, over, clearing_step, clearing_done}
 use Rattle.one_thread.proofs.seats.clear.Goals as goal

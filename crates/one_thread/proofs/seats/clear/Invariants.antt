@@ -1,6 +1,6 @@
 use Rattle.std.proofs.Common.{◌≡◌, ◌-◌, map, length}
 use Rattle.ended_seats.proofs.Walks.{Clearing}
-use Rattle.one_thread.specs.inner.View.{seat_of, onward_of}
+use Rattle.one_thread.specs.View.{seat_of, onward_of}
 use Rattle.one_thread.proofs.seats.clear.Given as goal
 
 abbrev pub invariant-loop-t : goal.invariant-loop-t

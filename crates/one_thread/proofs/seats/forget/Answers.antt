@@ -2,7 +2,7 @@ use Rattle.std.proofs.Common.{◌∙◌, ◌<◌, map, length, sym, ap, refl, ar
 use Rattle.std.specs.Prelude.{slice_get}
 use Rattle.std.proofs.lemmas.List.{length-map}
 use Rattle.std.proofs.lemmas.Option.{slice_get-get_or}
-use Rattle.one_thread.specs.inner.View.{seat_of, onward_of}
+use Rattle.one_thread.specs.View.{seat_of, onward_of}
 use Rattle.task_ast.proofs.ChangedSeats.{first_mapped-all}
 use Rattle.task_ast.proofs.SeenSeats.{first_mapped-next}
 use Rattle.ended_seats.proofs.Walks.{map-kept, map_constant}

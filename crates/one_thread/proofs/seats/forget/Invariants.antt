@@ -1,6 +1,6 @@
 use Rattle.std.proofs.Common.{◌≡◌, map}
 use Rattle.task_ast.proofs.ChangedSeats.{first_mapped}
-use Rattle.one_thread.specs.inner.View.{seat_of, onward_of}
+use Rattle.one_thread.specs.View.{seat_of, onward_of}
 use Rattle.one_thread.proofs.seats.forget.Given as goal
 
 abbrev pub invariant-loop-seat : goal.invariant-loop-seat

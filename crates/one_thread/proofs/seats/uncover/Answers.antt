@@ -1,6 +1,6 @@
 use Rattle.std.proofs.Common.{◌∙◌, sym, map}
 use Rattle.std.proofs.lemmas.Option.{slice_get-get_or}
-use Rattle.one_thread.specs.inner.View.{seat_of, onward_of}
+use Rattle.one_thread.specs.View.{seat_of, onward_of}
 use Rattle.task_ast.proofs.SeenSeats.{seen-at}
 use Rattle.ended_seats.proofs.Walks.{uncovered, uncovered_none, idle_none}
 use Rattle.one_thread.proofs.seats.uncover.Goals as goal

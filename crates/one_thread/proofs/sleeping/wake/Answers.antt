@@ -1,5 +1,5 @@
 use Rattle.std.proofs.Common.{◌∙◌, sym, map}
-use Rattle.one_thread.specs.inner.View.{seat_of}
+use Rattle.one_thread.specs.View.{seat_of}
 use Rattle.task_ast.proofs.Looks.{get-at}
 use Rattle.task_ast.proofs.SeenSeats.{seen-at}
 use Rattle.one_thread.proofs.Sleepers.{uncrossed}

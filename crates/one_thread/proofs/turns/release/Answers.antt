@@ -4,7 +4,7 @@ use Rattle.std.proofs.lemmas.Option.{slice_get-get_or}
 use Rattle.ended_seats.specs.Idle.{IdleOver}
 use Rattle.task_ast.specs.Table.{waits_at}
 use Rattle.task_ast.specs.Turn.{released_at}
-use Rattle.one_thread.specs.inner.View.{seat_of, onward_of}
+use Rattle.one_thread.specs.View.{seat_of, onward_of}
 use Rattle.task_ast.proofs.ChangedSeats.{first_mapped, released-waiting, released-other}
 use Rattle.task_ast.proofs.SeenSeats.{first_mapped-next}
 use Rattle.ended_seats.proofs.Walks.{map-kept, over, same_read, releases, releases_all}

@@ -1,6 +1,6 @@
 use Rattle.std.proofs.Common.{◌≡◌, ◌-◌, map, length}
 use Rattle.task_ast.specs.Turn.{released_at}
-use Rattle.one_thread.specs.inner.View.{seat_of, onward_of}
+use Rattle.one_thread.specs.View.{seat_of, onward_of}
 use Rattle.task_ast.proofs.ChangedSeats.{first_mapped}
 use Rattle.one_thread.proofs.turns.release.Given as goal
 

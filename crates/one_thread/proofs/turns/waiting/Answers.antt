@@ -3,7 +3,7 @@ use Rattle.task_ast.specs.Table.{waits_at}
 use Rattle.task_ast.proofs.Counting.{one}
 use Rattle.task_ast.proofs.Looks.{get-at}
 use Rattle.task_ast.proofs.SeenSeats.{seen-at}
-use Rattle.one_thread.specs.inner.View.{seat_of, onward_of}
+use Rattle.one_thread.specs.View.{seat_of, onward_of}
 use Rattle.ended_seats.proofs.Walks.{over, counted}
 use Rattle.one_thread.proofs.turns.waiting.Goals as goal
 use Rattle.one_thread.proofs.turns.waiting.Goals.{then-is_waiting, else-is_waiting}

@@ -1,6 +1,6 @@
 use Rattle.std.proofs.Common.{◌≡◌, ◌-◌, map, take, length, ◌≤◌, count_by}
 use Rattle.task_ast.specs.Table.{waits_at}
-use Rattle.one_thread.specs.inner.View.{seat_of}
+use Rattle.one_thread.specs.View.{seat_of}
 use Rattle.one_thread.proofs.turns.waiting.Given as goal
 
 abbrev pub invariant-loop-t : goal.invariant-loop-t

@@ -1,7 +1,7 @@
 use Rattle.std.proofs.Common.{refl, subst, rules, SFits, w64}
 use Rattle.std.proofs.lemmas.Int.{to_z-of_z}
 use Rattle.task_ast.specs.meaning.Control.{beginning, first_actions}
-use Rattle.one_thread.specs.inner.Walking.{setting_of, point_of, Begun}
+use Rattle.one_thread.specs.Walking.{setting_of, point_of, Begun}
 use Rattle.one_thread.proofs.SubthreadRuns.{ran_with}
 use Rattle.one_thread.proofs.work.work.Goals as goal
 

@@ -5,7 +5,7 @@ use Rattle.task_ast.specs.View.{plain_program}
 use Rattle.task_ast.specs.Plain.{order}
 use Rattle.task_ast.specs.Position.{before}
 use Rattle.lock_checker.specs.Accepted.{program_of}
-use Rattle.one_thread.specs.PlainRuns.{Stands}
+use Rattle.run_standing.specs.Standings.{Stands}
 use Rattle.run_views.proofs.Endings.{told_at_end}
 use Rattle.run_views.proofs.order.push_stand.Goals as goal
 

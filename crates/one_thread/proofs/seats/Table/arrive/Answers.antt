@@ -1,7 +1,7 @@
 use Rattle.std.proofs.Common.{◌∙◌, ap}
 use Rattle.task_ast.specs.Table.{is_known_end, next_of}
 use Rattle.task_ast.specs.Turn.{met}
-use Rattle.one_thread.specs.inner.View.{table_of}
+use Rattle.one_thread.specs.View.{table_of}
 use Rattle.one_thread.proofs.Turning.{met-next}
 use Rattle.one_thread.proofs.seats.Table.arrive.Goals as goal
 

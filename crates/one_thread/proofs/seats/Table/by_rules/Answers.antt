@@ -1,61 +1,29 @@
-use Rattle.std.proofs.Common.{◌∙◌, sym, ap, rules, w64, SFits}
+use Rattle.std.proofs.Common.{◌∙◌, refl, sym, ap, rules, w64, SFits}
 use Rattle.std.proofs.lemmas.Int.{to_z-of_z}
 use Rattle.gp_base.specs.declared.ending.End.TheVariants.{Spent}
 use Rattle.task_ast.specs.declared.sync.SyncOp.TheVariants as sync
 use Rattle.task_ast.specs.meaning.Repeat.{Done}
 use Rattle.task_ast.specs.Turn.{tried, issuing, Ended}
-use Rattle.one_thread.specs.inner.View.{table_of, seat_of}
+use Rattle.one_thread.specs.View.{table_of, seat_of}
 use Rattle.task_ast.proofs.SeenSeats.{turn-tries, next-at, last-at}
 use Rattle.one_thread.proofs.Looking.{seen-get}
 use Rattle.one_thread.proofs.Stops.{turn-ends, turn-needs, by-deadlock}
-use Rattle.one_thread.proofs.Turning.{by-rule, by-line, by-fork, by-end}
+use Rattle.one_thread.proofs.Turning.{by-rule, by-line, by-fork, by-end, tried-issues}
 use Rattle.one_thread.proofs.seats.Table.by_rules.Goals as goal
 
-pub returns-in-Start-clause-turn : goal.returns-in-Start-clause-turn
-returns-in-Start-clause-turn c =
+pub returns-in_default-sync-clause-turn : goal.returns-in_default-sync-clause-turn
+returns-in_default-sync-clause-turn c =
     let at =
     seen-get c.args.self.now _ c.in-Some.t c.in-Some-get.seat.now c.deref.ensures.value c.in-Some-get.ensures.lookup.0
     c.in-Some-get.ensures.lookup.1 in
+    let no = c.in_default-sync in
     by-rule c.issue.result c.args.self.now c.issue.new.self c.in-Some.t c.in-Some-next.next
     (λ n. issuing (table_of c.args.self.now) c.in-Some.t n)
     (turn-tries (table_of c.args.self.now) c.in-Some.t (seat_of c.in-Some-get.seat.now) c.in-Some-next.next
-    sync.Start c.in-Some.ensures.found at c.in-Some-next.is
-    c.if-seat.false c.in-Start.is)
+    c.in-Some-next.next.sync c.in-Some.ensures.found at c.in-Some-next.is c.if-seat.false refl
+    ∙ tried-issues c.in-Some-next.next.sync (table_of c.args.self.now) c.in-Some.t c.in-Some-next.next no.not-Lock no.not-Fork no.not-Join
+    no.not-Barrier no.not-BadIndex no.not-Spent)
     (next-at (table_of c.args.self.now) c.in-Some.t (seat_of c.in-Some-get.seat.now) at ∙ c.in-Some-next.is) c.issue.ensures.turn
-
-pub returns-in-Unlock-clause-turn : goal.returns-in-Unlock-clause-turn
-returns-in-Unlock-clause-turn c =
-    let at =
-    seen-get c.args.self.now _ c.in-Some.t c.in-Some-get.seat.now c.deref.ensures.value c.in-Some-get.ensures.lookup.0
-    c.in-Some-get.ensures.lookup.1 in
-    by-rule c.issue-in-Unlock.result c.args.self.now c.issue-in-Unlock.new.self c.in-Some.t c.in-Some-next.next
-    (λ n. issuing (table_of c.args.self.now) c.in-Some.t n)
-    (turn-tries (table_of c.args.self.now) c.in-Some.t (seat_of c.in-Some-get.seat.now) c.in-Some-next.next
-    (sync.Unlock c.in-Unlock.field-0) c.in-Some.ensures.found at c.in-Some-next.is c.if-seat.false c.in-Unlock.is)
-    (next-at (table_of c.args.self.now) c.in-Some.t (seat_of c.in-Some-get.seat.now) at ∙ c.in-Some-next.is) c.issue-in-Unlock.ensures.turn
-
-pub returns-in-End-clause-turn : goal.returns-in-End-clause-turn
-returns-in-End-clause-turn c =
-    let at =
-    seen-get c.args.self.now _ c.in-Some.t c.in-Some-get.seat.now c.deref.ensures.value c.in-Some-get.ensures.lookup.0
-    c.in-Some-get.ensures.lookup.1 in
-    by-rule c.issue-in-End.result c.args.self.now c.issue-in-End.new.self c.in-Some.t c.in-Some-next.next
-    (λ n. issuing (table_of c.args.self.now) c.in-Some.t n)
-    (turn-tries (table_of c.args.self.now) c.in-Some.t (seat_of c.in-Some-get.seat.now) c.in-Some-next.next
-    sync.End c.in-Some.ensures.found at c.in-Some-next.is
-    c.if-seat.false c.in-End.is)
-    (next-at (table_of c.args.self.now) c.in-Some.t (seat_of c.in-Some-get.seat.now) at ∙ c.in-Some-next.is) c.issue-in-End.ensures.turn
-
-pub returns-in-Settle-clause-turn : goal.returns-in-Settle-clause-turn
-returns-in-Settle-clause-turn c =
-    let at =
-    seen-get c.args.self.now _ c.in-Some.t c.in-Some-get.seat.now c.deref.ensures.value c.in-Some-get.ensures.lookup.0
-    c.in-Some-get.ensures.lookup.1 in
-    by-rule c.issue-in-Settle.result c.args.self.now c.issue-in-Settle.new.self c.in-Some.t c.in-Some-next.next
-    (λ n. issuing (table_of c.args.self.now) c.in-Some.t n)
-    (turn-tries (table_of c.args.self.now) c.in-Some.t (seat_of c.in-Some-get.seat.now) c.in-Some-next.next
-    (sync.Settle c.in-Settle.reg c.in-Settle.ctl) c.in-Some.ensures.found at c.in-Some-next.is c.if-seat.false c.in-Settle.is)
-    (next-at (table_of c.args.self.now) c.in-Some.t (seat_of c.in-Some-get.seat.now) at ∙ c.in-Some-next.is) c.issue-in-Settle.ensures.turn
 
 pub returns-in-Barrier-clause-turn : goal.returns-in-Barrier-clause-turn
 returns-in-Barrier-clause-turn c =

@@ -2,7 +2,7 @@ use Rattle.std.proofs.Common.{◌≡◌, ◌≤◌, ◌∙◌, ap, sym, refl, su
 use Rattle.std.specs.Vec.{with_items}
 use Rattle.std.proofs.lemmas.List.{with_items_is}
 use Rattle.ended_seats.specs.Idle.{IdleOver}
-use Rattle.one_thread.specs.inner.View.{table_of, seat_of, onward_of}
+use Rattle.one_thread.specs.View.{table_of, seat_of, onward_of}
 use Rattle.task_ast.proofs.Looks.{get-at}
 use Rattle.task_ast.proofs.SeenSeats.{arrived-is}
 use Rattle.one_thread.specs.declared.seats.Stand.TheVariants.{Waits}

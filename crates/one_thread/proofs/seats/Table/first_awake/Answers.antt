@@ -2,7 +2,7 @@ use Rattle.std.proofs.Common.{◌≡◌, ◌∙◌, ap, sym, subst, arith, map}
 use Rattle.task_ast.specs.Table.{Table}
 use Rattle.one_thread.specs.inner.Resting.{rests}
 use Rattle.one_thread.specs.inner.Sleeping.{SleepBetween}
-use Rattle.one_thread.specs.inner.View.{table_of, seat_of}
+use Rattle.one_thread.specs.View.{table_of, seat_of}
 use Rattle.one_thread.proofs.Sleepers.{rest-sleep, rest-more, kept-way}
 use Rattle.one_thread.proofs.seats.Table.first_awake.Goals as goal
 

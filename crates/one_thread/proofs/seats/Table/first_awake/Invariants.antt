@@ -1,6 +1,6 @@
 use Rattle.std.proofs.Common.{◌≡◌, ◌-◌, ◌≤◌}
 use Rattle.one_thread.specs.inner.Resting.{RestBetween}
-use Rattle.one_thread.specs.inner.View.{table_of, WalksStand}
+use Rattle.one_thread.specs.View.{table_of, WalksStand}
 use Rattle.one_thread.proofs.seats.Table.first_awake.Given as goal
 
 abbrev pub invariant-loop-t : goal.invariant-loop-t

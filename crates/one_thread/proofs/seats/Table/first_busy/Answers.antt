@@ -1,6 +1,6 @@
 use Rattle.std.proofs.Common.{◌∙◌, sym, subst, arith, length, ◌<◌, map}
 use Rattle.ended_seats.specs.Idle.{IdleBetween}
-use Rattle.one_thread.specs.inner.View.{seat_of, onward_of}
+use Rattle.one_thread.specs.View.{seat_of, onward_of}
 use Rattle.task_ast.proofs.Looks.{get-at}
 use Rattle.task_ast.proofs.SeenSeats.{seen-at}
 use Rattle.ended_seats.proofs.Idle.{further}

@@ -1,7 +1,7 @@
 use Rattle.std.proofs.Common.{◌∙◌, sym, ap, arith, length, ◌-◌, ◌<◌, map}
 use Rattle.task_ast.specs.meaning.Table.{numbers}
 use Rattle.task_ast.specs.Turn.{look}
-use Rattle.one_thread.specs.inner.View.{table_of, seat_of, onward_of}
+use Rattle.one_thread.specs.View.{table_of, seat_of, onward_of}
 use Rattle.task_ast.proofs.Looks.{get-at}
 use Rattle.ended_seats.proofs.Idle.{onwards}
 use Rattle.ended_seats.proofs.Walks.{over}

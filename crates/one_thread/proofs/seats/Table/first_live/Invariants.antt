@@ -1,7 +1,7 @@
 use Rattle.std.proofs.Common.{◌≡◌, ◌-◌}
 use Rattle.task_ast.specs.meaning.Table.{numbers}
 use Rattle.task_ast.specs.Turn.{look}
-use Rattle.one_thread.specs.inner.View.{table_of}
+use Rattle.one_thread.specs.View.{table_of}
 use Rattle.one_thread.proofs.seats.Table.first_live.Given as goal
 
 abbrev pub invariant-loop-t : goal.invariant-loop-t

@@ -6,7 +6,7 @@ use Rattle.task_ast.proofs.Looks.{get-at}
 use Rattle.task_ast.proofs.SeenSeats.{issued-as}
 use Rattle.ended_seats.specs.Idle.{IdleOver, PassedWithin, Walks}
 use Rattle.one_thread.specs.inner.Sleeping.{SleepOver}
-use Rattle.one_thread.specs.inner.View.{table_of, seat_of, onward_of}
+use Rattle.one_thread.specs.View.{table_of, seat_of, onward_of}
 use Rattle.one_thread.proofs.Looking.{token-is}
 use Rattle.task_ast.specs.Table.{unpassed}
 use Rattle.ended_seats.proofs.Walks.{begun_as, cleared_as, issued_as, grown_within}

@@ -3,7 +3,7 @@ use Rattle.std.proofs.lemmas.Int.{to_z-of_z}
 use Rattle.std.proofs.lemmas.List.{length-map}
 use Rattle.task_ast.specs.Looking.{joined_in}
 use Rattle.task_ast.proofs.SeenSeats.{next-at}
-use Rattle.one_thread.specs.inner.View.{table_of, seat_of}
+use Rattle.one_thread.specs.View.{table_of, seat_of}
 use Rattle.one_thread.proofs.Looking.{seen}
 use Rattle.one_thread.proofs.Joins.{joins-none, joins-unknown, joins-ended, joins-going}
 use Rattle.one_thread.proofs.seats.Table.join.Goals as goal

@@ -3,7 +3,7 @@ use Rattle.std.specs.Vec.{with_items}
 use Rattle.std.proofs.lemmas.List.{with_items_is}
 use Rattle.ended_seats.specs.Idle.{IdleOver, Uncovered}
 use Rattle.one_thread.specs.inner.Sleeping.{SleepOver}
-use Rattle.one_thread.specs.inner.View.{table_of, seat_of, onward_of}
+use Rattle.one_thread.specs.View.{table_of, seat_of, onward_of}
 use Rattle.task_ast.proofs.Looks.{get-at}
 use Rattle.task_ast.proofs.ChangedSeats.{map-replaced}
 use Rattle.task_ast.specs.meaning.Table.{with_nth}

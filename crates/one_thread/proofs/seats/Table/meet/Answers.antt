@@ -1,5 +1,5 @@
 use Rattle.std.proofs.Common.{◌∙◌, sym, rules, length, ◌<◌}
-use Rattle.one_thread.specs.inner.View.{seat_of}
+use Rattle.one_thread.specs.View.{seat_of}
 use Rattle.one_thread.proofs.Looking.{seen}
 use Rattle.one_thread.proofs.Turning.{HasCome, come-by, come-not, next-there, meets-goes, meets-waits, goes-on}
 use Rattle.one_thread.proofs.seats.Table.meet.Goals as goal

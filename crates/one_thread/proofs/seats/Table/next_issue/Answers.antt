@@ -3,7 +3,7 @@ use Rattle.gp_base.specs.declared.ending.End.TheVariants.{Finished}
 use Rattle.task_ast.specs.meaning.Repeat.{go_on}
 use Rattle.task_ast.specs.Turn.{Ended, turn, turns_left, next_issue}
 use Rattle.task_ast.proofs.Turns.{turn-IsFalling, next_issue_step}
-use Rattle.one_thread.specs.inner.View.{table_of, gives}
+use Rattle.one_thread.specs.View.{table_of, gives}
 use Rattle.one_thread.proofs.Turning.{last-turn}
 use Rattle.one_thread.proofs.seats.Table.next_issue.Goals as goal
 

@@ -1,7 +1,7 @@
 use Rattle.std.proofs.Common.{◌≡◌}
 use Rattle.task_ast.specs.Turn.{next_issue, turns_left}
-use Rattle.one_thread.specs.inner.Holding.{AreHeld}
-use Rattle.one_thread.specs.inner.View.{table_of, WalksStand}
+use Rattle.one_thread.specs.Holding.{AreHeld}
+use Rattle.one_thread.specs.View.{table_of, WalksStand}
 use Rattle.one_thread.proofs.seats.Table.next_issue.Given as goal
 
 abbrev pub invariant-loop-self : goal.invariant-loop-self

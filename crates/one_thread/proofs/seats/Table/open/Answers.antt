@@ -6,7 +6,7 @@ use Rattle.std.proofs.lemmas.List.{with_items_is}
 use Rattle.ended_seats.specs.Idle.{IdleOver, Walks}
 use Rattle.task_ast.specs.Table.{waits_at}
 use Rattle.task_ast.specs.Turn.{released_at}
-use Rattle.one_thread.specs.inner.View.{table_of, seat_of, onward_of}
+use Rattle.one_thread.specs.View.{table_of, seat_of, onward_of}
 use Rattle.ended_seats.proofs.Walks.{released_as, waits_most}
 use Rattle.one_thread.proofs.Sleepers.{no-way}
 use Rattle.one_thread.proofs.seats.Table.open.Goals as goal

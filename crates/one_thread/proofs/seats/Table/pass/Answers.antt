@@ -2,7 +2,7 @@ use Rattle.std.proofs.Common.{sym, ap, refl, true, inr, Some, arith, rules}
 use Rattle.task_ast.specs.meaning.Repeat.{More}
 use Rattle.task_ast.proofs.Looks.{get-at}
 use Rattle.task_ast.proofs.ChangedSeats.{map-replaced}
-use Rattle.one_thread.specs.inner.View.{table_of, seat_of, onward_of}
+use Rattle.one_thread.specs.View.{table_of, seat_of, onward_of}
 use Rattle.one_thread.proofs.Looking.{token-is}
 use Rattle.ended_seats.proofs.Walks.{put_live}
 use Rattle.one_thread.proofs.Sleepers.{put-asleep}

@@ -1,6 +1,6 @@
 use Rattle.std.proofs.Common.{◌≡◌, ◌∙◌, ◌<◌, sym, ap, subst, arith, length, map}
 use Rattle.one_thread.specs.inner.Sleeping.{SleepBetween, way_at}
-use Rattle.one_thread.specs.inner.View.{seat_of}
+use Rattle.one_thread.specs.View.{seat_of}
 use Rattle.task_ast.proofs.Looks.{get-at}
 use Rattle.task_ast.proofs.SeenSeats.{seen-at}
 use Rattle.one_thread.proofs.Sleepers.{further-sleep}

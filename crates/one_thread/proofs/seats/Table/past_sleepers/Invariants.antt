@@ -1,6 +1,6 @@
 use Rattle.std.proofs.Common.{◌-◌, ◌≤◌, map, length}
 use Rattle.one_thread.specs.inner.Sleeping.{SleepBetween}
-use Rattle.one_thread.specs.inner.View.{seat_of}
+use Rattle.one_thread.specs.View.{seat_of}
 use Rattle.one_thread.proofs.seats.Table.past_sleepers.Given as goal
 
 abbrev pub invariant-loop-t : goal.invariant-loop-t

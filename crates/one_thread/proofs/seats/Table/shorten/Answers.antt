@@ -1,7 +1,7 @@
 use Rattle.std.proofs.Common.{◌<◌, ap, sym, subst, refl, length, map, arith, rules}
 use Rattle.std.proofs.lemmas.List.{length-map}
 use Rattle.one_thread.specs.inner.Sleeping.{SleepOver}
-use Rattle.one_thread.specs.inner.View.{table_of, seat_of, onward_of}
+use Rattle.one_thread.specs.View.{table_of, seat_of, onward_of}
 use Rattle.task_ast.proofs.Looks.{get-at}
 use Rattle.ended_seats.proofs.Idle.{idle_within}
 use Rattle.ended_seats.proofs.Walks.{map-kept, shortened}

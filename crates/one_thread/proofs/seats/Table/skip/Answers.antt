@@ -4,7 +4,7 @@ use Rattle.task_ast.specs.Table.{Table}
 use Rattle.task_ast.specs.Turn.{next_issue}
 use Rattle.ended_seats.specs.Idle.{passed_at}
 use Rattle.one_thread.specs.inner.Resting.{rests, RestBetween, looking}
-use Rattle.one_thread.specs.inner.View.{table_of, seat_of}
+use Rattle.one_thread.specs.View.{table_of, seat_of}
 use Rattle.one_thread.proofs.Jumps.{jumped, jumped-round, none-passed}
 use Rattle.one_thread.proofs.seats.Table.skip.Goals as goal
 use Rattle.one_thread.proofs.seats.Table.skip.Goals.{After-len-all}

@@ -2,7 +2,7 @@ use Rattle.std.proofs.Common.{◌≡◌, ◌∙◌, ap, sym, length}
 use Rattle.std.proofs.lemmas.List.{length-map}
 use Rattle.task_ast.specs.Looking.{look_of}
 use Rattle.task_ast.proofs.SeenSeats.{look-first, look-second}
-use Rattle.one_thread.specs.inner.View.{table_of, seat_of}
+use Rattle.one_thread.specs.View.{table_of, seat_of}
 use Rattle.one_thread.proofs.Looking.{start-is}
 use Rattle.one_thread.proofs.seats.Table.token_at.Goals as goal
 

@@ -1,5 +1,5 @@
 use Rattle.std.proofs.Common.{◌≡◌, sym, subst, rules, length}
-use Rattle.one_thread.specs.inner.Runs.{Forks, IsNew}
+use Rattle.one_thread.specs.Runs.{Forks, IsNew}
 use Rattle.one_thread.proofs.threads.Run.add.Goals as goal
 
 pub returns-in-Fork-clause-threads : goal.returns-in-Fork-clause-threads

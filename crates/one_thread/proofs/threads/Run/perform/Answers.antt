@@ -3,8 +3,8 @@ use Rattle.std.proofs.lemmas.Int.{to_z-of_z}
 use Rattle.task_ast.specs.meaning.Names.{locks_of, records_of, cells_in, registers_of}
 use Rattle.task_ast.specs.View.{plain_task}
 use Rattle.one_thread.specs.inner.Subthreads.{settled, RanWith}
-use Rattle.one_thread.specs.inner.Runs.{joined_of}
-use Rattle.one_thread.specs.inner.View.{table_of, WalksStand}
+use Rattle.one_thread.specs.Runs.{joined_of}
+use Rattle.one_thread.specs.View.{table_of, WalksStand}
 use Rattle.task_ast.proofs.Looks.{get-at}
 use Rattle.one_thread.proofs.threads.Run.perform.Goals as goal
 

@@ -6,7 +6,7 @@ use Rattle.task_ast.specs.meaning.Control.{action, going, step_at}
 use Rattle.task_ast.specs.View.{plain_what, plain_task}
 use Rattle.one_thread.specs.inner.Remaining.{rest_of}
 use Rattle.one_thread.specs.inner.Working.{setting_in, Works}
-use Rattle.one_thread.specs.inner.Walking.{setting_of, point_of, Stepped}
+use Rattle.one_thread.specs.Walking.{setting_of, point_of, Stepped}
 use Rattle.one_thread.proofs.Naming.{noted-works}
 use Rattle.one_thread.proofs.Steps.{acted, unacted}
 use Rattle.one_thread.proofs.walk.Walk.act.Goals as goal

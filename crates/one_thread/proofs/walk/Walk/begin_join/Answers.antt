@@ -4,7 +4,7 @@ use Rattle.std.proofs.lemmas.Int.{to_z-of_z}
 use Rattle.task_ast.specs.meaning.Tree as plain
 use Rattle.task_ast.specs.meaning.Control.{begin_actions, behind}
 use Rattle.one_thread.specs.inner.Remaining.{rest_of}
-use Rattle.one_thread.specs.inner.Walking.{setting_of, point_of, Begun}
+use Rattle.one_thread.specs.Walking.{setting_of, point_of, Begun}
 use Rattle.one_thread.proofs.Walks.{with_left}
 use Rattle.one_thread.proofs.Beginning.{plainly_begun, join_begun}
 use Rattle.one_thread.proofs.walk.Walk.begin_join.Goals as goal

@@ -7,7 +7,7 @@ use Rattle.task_ast.specs.meaning.Tree as plain
 use Rattle.task_ast.specs.View.{plain_task}
 use Rattle.task_ast.specs.meaning.Control.{step_at}
 use Rattle.one_thread.specs.inner.Remaining.{rest_of}
-use Rattle.one_thread.specs.inner.Walking.{setting_of, point_of, Stepped}
+use Rattle.one_thread.specs.Walking.{setting_of, point_of, Stepped}
 use Rattle.one_thread.proofs.Settling.{number_of}
 use Rattle.one_thread.proofs.Steps.{stays}
 use Rattle.one_thread.proofs.walk.Walk.settle.Goals as goal

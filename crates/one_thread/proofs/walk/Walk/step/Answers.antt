@@ -1,15 +1,15 @@
 use Rattle.std.proofs.Common.{◌∙◌, ap, sym, subst, refl, rules, w64, SFits}
-use Rattle.std.specs.Prelude.{IsTrue, ◌∷◌}
+use Rattle.std.specs.Prelude.{◌∷◌}
 use Rattle.std.proofs.lemmas.Int.{to_z-of_z}
 use Rattle.task_ast.specs.declared.sync.SyncOp.TheVariants as sync
 use Rattle.task_ast.specs.meaning.Tree as plain
 use Rattle.task_ast.specs.meaning.Value.{value}
 use Rattle.task_ast.specs.meaning.Control.{step, lock_number}
-use Rattle.task_ast.specs.Shaped.{is_data}
 use Rattle.task_ast.specs.View.{plain_expr, plain_exprs, plain_what, plain_block}
-use Rattle.task_ast.proofs.Views.{stmt_At, what_SetCtl, what_While, what_If, what_Lock, what_Unlock, what_Fork, what_Join, what_Barrier, what_Settle, what_SetReg, what_Read, what_Write, what_Print, what_When}
+use Rattle.task_ast.proofs.Views.{stmt_At, what_SetCtl, what_While, what_If, what_Lock, what_Unlock, what_Fork, what_Join, what_Barrier, what_Settle}
 use Rattle.one_thread.specs.inner.Remaining.{rest_of}
-use Rattle.one_thread.specs.inner.Walking.{setting_of, point_of, Stepped}
+use Rattle.one_thread.specs.Walking.{setting_of, point_of, Stepped}
+use Rattle.one_thread.proofs.OtherKinds.{data-other}
 use Rattle.one_thread.proofs.Steps.{env_is}
 use Rattle.one_thread.proofs.Walks.{with_left, at_first, at_first_ok, at_fork, stops_with, stops_without}
 use Rattle.one_thread.proofs.walk.Walk.step.Goals as goal
@@ -23,26 +23,9 @@ turn-requires-clause-first g c =
 
 pub act-requires-clause-data : goal.act-requires-clause-data
 act-requires-clause-data g c =
-    subst (λ w. IsTrue (is_data w)) (sym (ap plain_what c.in-SetReg.is ∙ what_SetReg c.in-SetReg.field-0 c.in-SetReg.field-1)) refl
-
-pub act-requires-in-Read-clause-data : goal.act-requires-in-Read-clause-data
-act-requires-in-Read-clause-data g c =
-    subst (λ w. IsTrue (is_data w)) (sym (ap plain_what c.in-Read.is ∙ what_Read c.in-Read.field-0 c.in-Read.field-1 c.in-Read.field-2))
-    refl
-
-pub act-requires-in-Write-clause-data : goal.act-requires-in-Write-clause-data
-act-requires-in-Write-clause-data g c =
-    subst (λ w. IsTrue (is_data w)) (sym (ap plain_what c.in-Write.is
-    ∙ what_Write c.in-Write.field-0 c.in-Write.field-1 c.in-Write.field-2)) refl
-
-pub act-requires-in-Print-clause-data : goal.act-requires-in-Print-clause-data
-act-requires-in-Print-clause-data g c =
-    subst (λ w. IsTrue (is_data w)) (sym (ap plain_what c.in-Print.is ∙ what_Print c.in-Print.field-0)) refl
-
-pub act-requires-in-When-clause-data : goal.act-requires-in-When-clause-data
-act-requires-in-When-clause-data g c =
-    subst (λ w. IsTrue (is_data w)) (sym (ap plain_what c.in-When.is ∙ what_When c.in-When.field-0 c.in-When.field-1 c.in-When.field-2))
-    refl
+    let no = c.in_default-what in
+    data-other c.in-Some.s.now.what no.not-SetCtl no.not-While no.not-If no.not-Lock no.not-Unlock no.not-Fork no.not-Join no.not-Barrier
+    no.not-Settle
 
 pub returns-in-SetCtl : goal.returns-in-SetCtl
 returns-in-SetCtl g c =
@@ -156,32 +139,8 @@ returns-in-Settle g c =
     (ap plain_what c.in-Settle.is ∙ what_Settle c.in-Settle.x c.in-Settle.c)
     c.settle.ensures
 
-pub returns-in-SetReg : goal.returns-in-SetReg
-returns-in-SetReg g c =
+pub returns-in_default-what : goal.returns-in_default-what
+returns-in_default-what g c =
     at_first_ok c.args.self.now c.first.new.self c.act.new.self c.in-Some.ensures.same c.in-Some.s.now
     (plain_what c.in-Some.s.now.what) c.act.result c.in-Some.ensures.one (refl)
     c.act.ensures
-
-pub returns-in-Read : goal.returns-in-Read
-returns-in-Read g c =
-    at_first_ok c.args.self.now c.first.new.self c.act-in-Read.new.self c.in-Some.ensures.same c.in-Some.s.now
-    (plain_what c.in-Some.s.now.what) c.act-in-Read.result c.in-Some.ensures.one (refl)
-    c.act-in-Read.ensures
-
-pub returns-in-Write : goal.returns-in-Write
-returns-in-Write g c =
-    at_first_ok c.args.self.now c.first.new.self c.act-in-Write.new.self c.in-Some.ensures.same c.in-Some.s.now
-    (plain_what c.in-Some.s.now.what) c.act-in-Write.result c.in-Some.ensures.one (refl)
-    c.act-in-Write.ensures
-
-pub returns-in-Print : goal.returns-in-Print
-returns-in-Print g c =
-    at_first_ok c.args.self.now c.first.new.self c.act-in-Print.new.self c.in-Some.ensures.same c.in-Some.s.now
-    (plain_what c.in-Some.s.now.what) c.act-in-Print.result c.in-Some.ensures.one (refl)
-    c.act-in-Print.ensures
-
-pub returns-in-When : goal.returns-in-When
-returns-in-When g c =
-    at_first_ok c.args.self.now c.first.new.self c.act-in-When.new.self c.in-Some.ensures.same c.in-Some.s.now
-    (plain_what c.in-Some.s.now.what) c.act-in-When.result c.in-Some.ensures.one (refl)
-    c.act-in-When.ensures

@@ -1,5 +1,5 @@
 use Rattle.task_ast.specs.meaning.Control.{size}
-use Rattle.one_thread.specs.inner.Walking.{point_of, Came}
+use Rattle.one_thread.specs.Walking.{point_of, Came}
 use Rattle.one_thread.proofs.walk.Walk.stretch.Given as goal
 
 abbrev pub invariant-loop-went : goal.invariant-loop-went

@@ -1,6 +1,6 @@
 use Rattle.std.proofs.Common.{◌≡◌, take, map}
-use Rattle.one_thread.specs.inner.Walking.{point_of}
-use Rattle.one_thread.proofs.standing.names_of.Given as goal
+use Rattle.one_thread.specs.Walking.{point_of}
+use Rattle.run_standing.proofs.standing.names_of.Given as goal
 
 -- those so far were taken over
 abbrev pub invariant-loop-walk : goal.invariant-loop-walk

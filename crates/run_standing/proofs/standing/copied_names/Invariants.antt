@@ -1,5 +1,5 @@
 use Rattle.std.proofs.Common.{◌≡◌, take}
-use Rattle.one_thread.proofs.standing.copied_names.Given as goal
+use Rattle.run_standing.proofs.standing.copied_names.Given as goal
 
 -- those so far were taken over
 abbrev pub invariant-loop-pair : goal.invariant-loop-pair

@@ -19,9 +19,9 @@ use Rattle.one_thread.specs.declared.walk.Walk.{Walk}
 use Rattle.one_thread.specs.declared.work.Told.{Told}
 use Rattle.one_thread.specs.declared.work.Done.{Done}
 use Rattle.one_thread.specs.declared.threads.Run.{Run}
-use Rattle.one_thread.specs.inner.Holding.{AreHeld}
-use Rattle.one_thread.specs.inner.View.{table_of, WalksStand}
-use Rattle.one_thread.specs.inner.Walking.{point_of}
+use Rattle.one_thread.specs.Holding.{AreHeld}
+use Rattle.one_thread.specs.View.{table_of, WalksStand}
+use Rattle.one_thread.specs.Walking.{point_of}
 use Rattle.one_thread.specs.inner.Subthreads.{settled, RanWith}
 
 -- the names of a task's registers

@@ -20,7 +20,7 @@ use Rattle.one_thread.specs.declared.run.Step.{Step}
 use Rattle.one_thread.specs.declared.run.Move.{Move}
 use Rattle.one_thread.specs.declared.run.Move.TheVariants as here
 use Rattle.one_thread.specs.PlainRuns.{shown}
-use Rattle.one_thread.specs.inner.Runs.{Performed, Holds}
+use Rattle.one_thread.specs.Runs.{Performed, Holds}
 
 -- what a subthread reads and writes that names these record cells
 abbrev pub foot_with : (thread : ℕ) → (begins : SyncOp) → (child : Option ℕ) → Named → Footprint

@@ -2,12 +2,12 @@ use Rattle.std.proofs.Common.{subst, sym}
 use Rattle.task_ast.specs.Plain.{Plain}
 use Rattle.task_ast.specs.View.{plain_program}
 use Rattle.lock_checker.proofs.BaseLemmas.{accepted_small}
-use Rattle.one_thread.specs.PlainRuns.{Stands}
-use Rattle.one_thread.specs.inner.Moves.{Follows}
+use Rattle.run_standing.specs.Standings.{Stands}
+use Rattle.one_thread.specs.Moves.{Follows}
 use Rattle.one_thread.proofs.Running.{follows-here}
-use Rattle.one_thread.specs.inner.View.{table_of}
-use Rattle.one_thread.proofs.Nearing.{Nears, nears-start, nears-more, nears-there, nears-short}
-use Rattle.one_thread.proofs.standing.stand_before.Goals as goal
+use Rattle.one_thread.specs.View.{table_of}
+use Rattle.run_standing.proofs.Nearing.{Nears, nears-start, nears-more, nears-there, nears-short}
+use Rattle.run_standing.proofs.standing.stand_before.Goals as goal
 
 pub new-requires-clause-small : goal.new-requires-clause-small
 new-requires-clause-small c =

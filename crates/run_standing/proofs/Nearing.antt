@@ -10,8 +10,8 @@ use Rattle.task_ast.specs.Position.{before}
 use Rattle.task_ast.specs.View.{plain_program}
 use Rattle.one_thread.specs.declared.threads.Run.{Run}
 use Rattle.one_thread.specs.declared.run.Step.{Step}
-use Rattle.one_thread.specs.inner.Runs.{Holds}
-use Rattle.one_thread.specs.inner.Moves.{Went, Halted}
+use Rattle.one_thread.specs.Runs.{Holds}
+use Rattle.one_thread.specs.Moves.{Went, Halted}
 use Rattle.one_thread.proofs.Running.{state-goes, steps-goes, steps-ends, ahead-start}
 
 module _ (code : Code) (inputs : Inputs) (limits : Limits) (position : ℕ) where

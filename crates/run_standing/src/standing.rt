@@ -4,18 +4,13 @@ ghost use Rattle.task_ast.specs.View.{plain_program};
 ghost use Rattle.task_ast.specs.Plain.{order};
 ghost use Rattle.task_ast.specs.Position.{before};
 ghost use Rattle.lock_checker.specs.Accepted.{program_of};
-ghost use Rattle.one_thread.specs.PlainRuns.{Stands};
-ghost use Rattle.one_thread.specs.inner.View.{seat_of, table_of};
-ghost use Rattle.one_thread.specs.inner.Walking.{point_of};
+ghost use Rattle.one_thread.specs.View.{seat_of, table_of};
+ghost use Rattle.one_thread.specs.Walking.{point_of};
+ghost use Rattle.run_standing.specs.Standings.{Stands};
 
-use crate::opening::all_registers;
-use crate::reckoning::Plainly;
-use crate::run::Move;
-use crate::seats::Seat;
-use crate::threads::Run;
-use crate::walk::Walk;
 use gp_base::{Inputs, Limits, Name, Seq};
 use lock_checker::Checked;
+use one_thread::{Move, Plainly, Run, Seat, Walk, all_registers};
 use std::alloc::{AllocError, Global};
 use task_ast::Next;
 

@@ -1,6 +1,6 @@
-use Rattle.one_thread.specs.inner.Runs.{IsSmall}
-use Rattle.one_thread.proofs.Nearing.{Nears}
-use Rattle.one_thread.proofs.standing.stand_before.Given as goal
+use Rattle.one_thread.specs.Runs.{IsSmall}
+use Rattle.run_standing.proofs.Nearing.{Nears}
+use Rattle.run_standing.proofs.standing.stand_before.Given as goal
 
 abbrev pub invariant-loop-at : goal.invariant-loop-at
 invariant-loop-at l = record {

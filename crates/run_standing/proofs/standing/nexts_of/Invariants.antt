@@ -1,6 +1,6 @@
 use Rattle.std.proofs.Common.{◌≡◌, take, map}
-use Rattle.one_thread.specs.inner.View.{seat_of}
-use Rattle.one_thread.proofs.standing.nexts_of.Given as goal
+use Rattle.one_thread.specs.View.{seat_of}
+use Rattle.run_standing.proofs.standing.nexts_of.Given as goal
 
 -- those so far were taken over
 abbrev pub invariant-loop-seat : goal.invariant-loop-seat
