@@ -1,5 +1,5 @@
 // What every crew keeps: the tasks that wait, the pairs of all that were posted, and whether memory ran out.
-ghost use Rattle.std.specs.Prelude.{◌≡◌, ◌↔◌, ◌<◌, ◌≤◌, true, false, [], ◌∷◌, ◌++◌, length, slice_index_or, All, IsErr, OnOk, OnErr, IfOk, IfErr, IfSome, IfNone};
+ghost use Rattle.std.specs.Prelude.{◌≡◌, ◌↔◌, ◌<◌, ◌≤◌, true, false, [], ◌∷◌, ◌++◌, length, slice_index_or, All, Ok, IsErr, OnOk, OnErr, IfOk, IfErr, IfSome, IfNone};
 ghost use Rattle.subthread.specs.Tasks.{Fits, IsRun, task_of};
 ghost use Rattle.crew.specs.Out.{TakesOut, pair_of};
 
@@ -82,6 +82,22 @@ impl<'a> Inbox<'a> {
         self.failed = true;
     }
 
+    /// The value of an answer. Where it has none, memory ran out, which is noted.
+    pub fn noted<T, E: Drop>(&mut self, answer: Result<T, E>) -> Result<T, AllocError>
+        ensures value { IfOk result (λ value. answer ≡ Ok value) }
+        ensures ok { OnOk result (self.new ≡ self.old) }
+        ensures err { OnErr result (self.new ≡ record self.old { failed = true }) }
+        ensures others { self.new ≡ record self.old { failed = self.new.failed } }
+    {
+        match answer {
+            Ok(value) => Ok(value),
+            Err(_) => {
+                self.failed = true;
+                Err(AllocError)
+            }
+        }
+    }
+
     /// Puts a task after those that wait.
     pub fn post(&mut self, task: Task) -> Result<(), AllocFailed<Task>>
         requires fits { Fits self.old.work task }
@@ -162,12 +178,7 @@ impl<'a> Inbox<'a> {
         ensures ok { OnOk result (self.new ≡ self.old) }
         ensures err { OnErr result (self.new ≡ record self.old { failed = true }) }
     {
-        match run_task(self.alloc, self.work, task) {
-            Ok(done) => Ok(done),
-            Err(_) => {
-                self.failed = true;
-                Err(AllocError)
-            }
-        }
+        let run = run_task(self.alloc, self.work, task);
+        self.noted(run)
     }
 }
