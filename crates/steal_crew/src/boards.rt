@@ -1,8 +1,9 @@
 // Tasks that are run over boards, by workers that steal from one another.
-ghost use Rattle.std.specs.Prelude.{◌≡◌, ◌≤◌, [], length, All, IfOk};
+ghost use Rattle.std.specs.Prelude.{◌≡◌, ◌+◌, ◌<◌, ◌≤◌, [], length, All, IfOk};
 ghost use Rattle.gp_steal.specs.Held.{about, book, gathered, IsClerkOf};
 ghost use Rattle.gp_steal.specs.Told.{IsWhole};
-ghost use Rattle.subthread.specs.Tasks.{Fits};
+ghost use Rattle.desk_board.specs.Told.{IsRunAt};
+ghost use Rattle.subthread.specs.Tasks.{Fits, Answers};
 ghost use Rattle.crew.specs.Out.{AreRuns};
 ghost use Rattle.steal_crew.specs.Batches.{AreCounted};
 ghost use Rattle.steal_crew.specs.Counts.{sum_of};
@@ -13,7 +14,7 @@ use crate::sharing::work_board;
 use crew::{MeanSteps, run_wave};
 use gp_base::{Gate, Seq};
 use gp_steal::{StealBoard, StealClerk};
-use std::alloc::{AllocError, Global};
+use std::alloc::{AllocError, AllocFailed, Global};
 use std::thread::Threads;
 use subthread::{Done, Task, Work};
 
@@ -22,6 +23,29 @@ const MOST_TASKS: usize = 65_536;
 
 // The most threads that share a board: each has a pass of its own, and the first pass has so many shares.
 const MOST_WORKERS: u32 = 64;
+
+// The run of the task of a desk, on a board whose last pass is gathered and of which no run was collected from this desk
+// on: each desk was claimed once. The error is that the run found no memory.
+fn run_at(
+    board: &StealBoard<Task>,
+    clerk: &mut StealClerk<Task>,
+    desk: u32,
+) -> Result<Done, AllocFailed<Task>>
+    requires of { IsClerkOf board.now clerk.old }
+    requires desk { desk < length (about board.now).jobs }
+    requires whole { IsWhole (length (about board.now).jobs) (gathered clerk.old) }
+    requires first { All (λ d. d < desk) (book clerk.old).taken }
+    ensures of { IsClerkOf board.now clerk.new }
+    ensures same { gathered clerk.new ≡ gathered clerk.old }
+    ensures taken { All (λ d. d < desk + 1) (book clerk.new).taken }
+    ensures run { IsRunAt Answers (about board.now) desk result }
+    ensures once { length (gathered clerk.new).claimed ≡ length (about board.now).jobs }
+{
+    if !board.look(clerk, desk) {
+        unreachable!()
+    }
+    board.collect(clerk, desk)
+}
 
 // The runs of all tasks of a board whose last pass is gathered, in order: each desk was claimed once. The error is that
 // memory is out, here or in a run.
@@ -39,12 +63,8 @@ fn collect(
 {
     let mut runs = Vec::with_capacity(alloc, board.count() as usize)?;
     for desk in 0..board.count() {
-        if board.look(clerk, desk) {
-            let done = board.collect(clerk, desk)?;
-            runs.push(done)?;
-        } else {
-            unreachable!()
-        }
+        let done = run_at(board, clerk, desk)?;
+        runs.push_reserved(done);
     }
     Ok(runs)
 }
@@ -134,17 +154,14 @@ pub fn run_steal<G: Gate, R: Threads + Sync>(
     let mut runs = Vec::new(alloc);
     let mut counts = Counts::none();
     let mut rest = tasks.into_vec();
-    while rest.len() > MOST_TASKS {
-        let later = rest.split_off(MOST_TASKS)?;
+    while !rest.is_empty() {
+        let later = rest.split_off(rest.len().min(MOST_TASKS))?;
         let first = Seq::from_vec(rest);
+        rest = later;
         let (mut more, claimed) = run_some(rt, alloc, work, gate, mean_steps, workers, first)?;
         runs.append(&mut more)?;
         counts = counts.and(claimed);
-        rest = later;
     }
-    let last = Seq::from_vec(rest);
-    let (mut more, claimed) = run_some(rt, alloc, work, gate, mean_steps, workers, last)?;
-    runs.append(&mut more)?;
-    let Counts { own, stolen, swept } = counts.and(claimed);
+    let Counts { own, stolen, swept } = counts;
     Ok((Seq::from_vec(runs), (own, stolen, swept)))
 }

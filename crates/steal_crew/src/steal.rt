@@ -68,18 +68,11 @@ impl<'a, F: Fn(Seq<Task>) -> Result<(Seq<Done>, (u64, u64, u64)), AllocError>> S
         // all that was counted was posted
         let _posts = self.inbox.posts();
         let tasks = self.inbox.all();
-        match (self.run_all)(tasks) {
-            Ok(ran) => {
-                let (own, stolen, swept) = ran.1;
-                self.runs = VecDeque::from(ran.0.into_vec());
-                self.counts = self.counts.and(Counts { own, stolen, swept });
-                Ok(())
-            }
-            Err(_) => {
-                self.inbox.fail();
-                Err(AllocError)
-            }
-        }
+        let answer = (self.run_all)(tasks);
+        let (runs, (own, stolen, swept)) = self.inbox.noted(answer)?;
+        self.runs = VecDeque::from(runs.into_vec());
+        self.counts = self.counts.and(Counts { own, stolen, swept });
+        Ok(())
     }
 }
 

@@ -1,4 +1,4 @@
-use Rattle.std.proofs.Common.{◌≡◌, ◌<◌, ◌≤◌, All, map, take, length}
+use Rattle.std.proofs.Common.{◌≡◌, ◌<◌, ◌≤◌, All, map, take, length, vec_len, vec_capacity}
 use Rattle.gp_steal.specs.Held.{about, book, gathered, IsClerkOf}
 use Rattle.subthread.specs.Tasks.{IsRun, task_of}
 use Rattle.steal_crew.proofs.boards.collect.Given as goal
@@ -8,6 +8,8 @@ invariant-loop-desk l = record {
   of : IsClerkOf l.board l.clerk;
   same : gathered l.clerk ≡ gathered l.initial.clerk;
   taken : All (λ d. d < l.desk) (book l.clerk).taken;
+  count : vec_len l.runs ≡ l.desk;
+  room : l.board.count ≤ vec_capacity l.runs;
   tasks : map (task_of (about l.board).with) l.runs.items ≡ take l.desk (about l.board).jobs;
   runs : All (IsRun (about l.board).with) l.runs.items;
   once : 1 ≤ l.desk → length (gathered l.initial.clerk).claimed ≡ length (about l.board).jobs;

@@ -1,11 +1,11 @@
 use Rattle.std.proofs.Common.{◌≡◌, ◌+◌, ◌≤◌, length}
 use Rattle.gp_steal.specs.Held.{hand}
 use Rattle.steal_crew.specs.Working.{IsIdle}
-use Rattle.steal_crew.proofs.working.steal_from.Given as goal
+use Rattle.steal_crew.proofs.working.Bench.take_own.Given as goal
 
 abbrev pub invariant-loop-turn : goal.invariant-loop-turn
 invariant-loop-turn g l = record {
-  idle : IsIdle l.board l.work l.pass;
+  idle : IsIdle l.self.board.now l.self.work.now l.pass;
   share : (hand l.pass).share ≡ (hand l.initial.pass).share;
   counted : length (hand l.pass).claimed ≡ length (hand l.initial.pass).claimed + l.claimed;
   few : l.claimed ≤ l._turn;

@@ -1,5 +1,5 @@
 use Rattle.std.proofs.Common.{◌∙◌, arith}
-use Rattle.steal_crew.proofs.working.take_own.Goals as goal
+use Rattle.steal_crew.proofs.working.Bench.take_own.Goals as goal
 
 pub loop-turn-preserved : goal.loop-turn-preserved
 loop-turn-preserved g c =

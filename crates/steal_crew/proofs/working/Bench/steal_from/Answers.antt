@@ -1,10 +1,10 @@
 use Rattle.std.proofs.Common.{◌∙◌, arith}
-use Rattle.steal_crew.proofs.working.steal_each.Goals as goal
+use Rattle.steal_crew.proofs.working.Bench.steal_from.Goals as goal
 
-pub loop-place-preserved : goal.loop-place-preserved
-loop-place-preserved g c =
-    let was = c.loop-place.invariant in
-    let tried = c.steal_from-claimed.ensures in
+pub loop-turn-preserved : goal.loop-turn-preserved
+loop-turn-preserved g c =
+    let was = c.loop-turn.invariant in
+    let tried = c.try_hint-claimed.ensures in
     record {
       idle = tried.idle;
       share = tried.share ∙ was.share;

@@ -1,14 +1,14 @@
 use Rattle.std.proofs.Common.{◌∙◌, arith}
 use Rattle.gp_steal.specs.Held.{hand}
 use Rattle.steal_crew.proofs.Holding.{swept_on}
-use Rattle.steal_crew.proofs.working.sweep.Goals as goal
+use Rattle.steal_crew.proofs.working.Bench.sweep.Goals as goal
 
-pub loop-alloc-preserved : goal.loop-alloc-preserved
-loop-alloc-preserved g c =
-    let was = c.loop-alloc.invariant in
+pub loop-pass-preserved : goal.loop-pass-preserved
+loop-pass-preserved g c =
+    let was = c.loop-pass.invariant in
     let tried = c.try_desk-claimed.ensures in
     let on =
-    swept_on c.swept-desk.result (hand c.loop-alloc.pass).swept (hand c.try_desk-claimed.new.pass).swept c.swept-desk.ensures
+    swept_on c.swept-desk.result (hand c.loop-pass.pass).swept (hand c.try_desk-claimed.new.pass).swept c.swept-desk.ensures
     tried.swept in
     record {
       idle = tried.idle;

@@ -3,7 +3,7 @@ use Rattle.std.specs.Prelude.{slice_get}
 use Rattle.gp_steal.specs.Held.{about, hand}
 use Rattle.subthread.specs.Tasks.{Fits, Answers}
 use Rattle.steal_crew.proofs.Holding.{held_now, idle_again}
-use Rattle.steal_crew.proofs.working.try_desk.Goals as goal
+use Rattle.steal_crew.proofs.working.Bench.try_desk.Goals as goal
 
 pub run_noted-run-requires : goal.run_noted-run-requires
 run_noted-run-requires g c = subst (λ w. Fits w c.in-Some.task) c.requires.idle.1 c.in-Some.ensures.job.1
@@ -16,7 +16,7 @@ finish-requires-clause-held g c κs =
 pub finish-requires-clause-run : goal.finish-requires-clause-run
 finish-requires-clause-run g c κs = (
   c.in-Some.task,
-  subst (λ k. slice_get (about c.args.board.now).jobs k ≡ Some c.in-Some.task) (sym c.in-Some.ensures.desk.0) c.in-Some.ensures.job.0,
+  subst (λ k. slice_get (about c.args.self.now.board.now).jobs k ≡ Some c.in-Some.task) (sym c.in-Some.ensures.desk.0) c.in-Some.ensures.job.0,
   subst (λ w. Answers w c.in-Some.task c.run_noted-run.result) (sym c.requires.idle.1) c.run_noted-run.ensures,
 )
 
