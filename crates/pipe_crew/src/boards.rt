@@ -1,15 +1,15 @@
 // Tasks that are run over boards, by threads that are started for each board and joined again.
-ghost use Rattle.std.specs.Prelude.{◌≡◌, ◌≤◌, [], length, max, All, IfOk};
+ghost use Rattle.std.specs.Prelude.{◌≡◌, ◌+◌, ◌<◌, ◌≤◌, [], length, max, All, IfOk};
 ghost use Rattle.desk_board.specs.Held.{about, book, gathered, IsClerkOf};
-ghost use Rattle.desk_board.specs.Told.{IsWhole};
-ghost use Rattle.subthread.specs.Tasks.{Fits};
+ghost use Rattle.desk_board.specs.Told.{IsWhole, IsRunAt};
+ghost use Rattle.subthread.specs.Tasks.{Fits, Answers};
 ghost use Rattle.crew.specs.Out.{AreRuns};
 
 use crate::draining::work_board;
 use crew::{MeanSteps, run_wave};
 use desk_board::{Board, Clerk};
 use gp_base::{Gate, Seq};
-use std::alloc::{AllocError, Global};
+use std::alloc::{AllocError, AllocFailed, Global};
 use std::thread::Threads;
 use subthread::{Done, Task, Work};
 
@@ -18,6 +18,28 @@ const MOST_TASKS: usize = 65_536;
 
 // The most threads that share a board: each has a pass of its own, and the first pass has so many shares.
 const MOST_WORKERS: u32 = 64;
+
+// The run of the task of a desk, on a board whose last pass is gathered and of which no run was collected from this desk
+// on. The error is that the run found no memory.
+fn run_at(
+    board: &Board<Task>,
+    clerk: &mut Clerk<Task>,
+    desk: u32,
+) -> Result<Done, AllocFailed<Task>>
+    requires of { IsClerkOf board.now clerk.old }
+    requires desk { desk < length (about board.now).jobs }
+    requires whole { IsWhole (gathered clerk.old) }
+    requires first { All (λ d. d < desk) (book clerk.old).taken }
+    ensures of { IsClerkOf board.now clerk.new }
+    ensures whole { IsWhole (gathered clerk.new) }
+    ensures taken { All (λ d. d < desk + 1) (book clerk.new).taken }
+    ensures run { IsRunAt Answers (about board.now) desk result }
+{
+    if !board.look(clerk, desk) {
+        unreachable!()
+    }
+    board.collect(clerk, desk)
+}
 
 // The runs of all tasks of a board whose last pass is gathered, in order. The error is that memory is out, here or in a
 // run.
@@ -33,12 +55,8 @@ fn collect(
 {
     let mut runs = Vec::with_capacity(alloc, board.count() as usize)?;
     for desk in 0..board.count() {
-        if board.look(clerk, desk) {
-            let done = board.collect(clerk, desk)?;
-            runs.push(done)?;
-        } else {
-            unreachable!()
-        }
+        let done = run_at(board, clerk, desk)?;
+        runs.push_reserved(done);
     }
     Ok(runs)
 }
@@ -114,16 +132,13 @@ pub fn run_board<G: Gate, R: Threads + Sync>(
     let mut runs = Vec::new(alloc);
     let mut most = 1;
     let mut rest = tasks.into_vec();
-    while rest.len() > MOST_TASKS {
-        let later = rest.split_off(MOST_TASKS)?;
+    while !rest.is_empty() {
+        let later = rest.split_off(rest.len().min(MOST_TASKS))?;
         let first = Seq::from_vec(rest);
+        rest = later;
         let (mut more, passes) = run_some(rt, alloc, work, gate, mean_steps, workers, first)?;
         runs.append(&mut more)?;
         most = most.max(passes);
-        rest = later;
     }
-    let last = Seq::from_vec(rest);
-    let (mut more, passes) = run_some(rt, alloc, work, gate, mean_steps, workers, last)?;
-    runs.append(&mut more)?;
-    Ok((Seq::from_vec(runs), most.max(passes)))
+    Ok((Seq::from_vec(runs), most))
 }

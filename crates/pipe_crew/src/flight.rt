@@ -1,7 +1,8 @@
 // A board whose runs come back one after another.
-ghost use Rattle.std.specs.Prelude.{◌≡◌, ◌↔◌, ◌+◌, ◌<◌, ◌≤◌, IsTrue, true, length, All, IfOk};
+ghost use Rattle.std.specs.Prelude.{◌≡◌, ◌↔◌, ◌+◌, ◌<◌, ◌≤◌, IsTrue, true, [], length, All, IfOk, OnOk};
 ghost use Rattle.std.specs.Arc.{arc_value};
-ghost use Rattle.desk_board.specs.Held.{about, hand};
+ghost use Rattle.desk_board.specs.Held.{about, hand, IsPassOf};
+ghost use Rattle.desk_board.specs.Rule.{first_hand};
 ghost use Rattle.subthread.specs.Tasks.{Fits};
 ghost use Rattle.pipe_crew.specs.inner.Flights.{Stands, IsFlight, IsBack, left_in, GivesOldest};
 
@@ -42,24 +43,58 @@ pub fn launch<H: Wait>(
     ensures flight { IfOk result (IsFlight (arc_value work.now) (threads + 1)) }
     ensures left { IfOk result (λ flight. left_in flight ≡ tasks) }
 {
-    let (board, mut pass, clerk) = match Board::new(alloc, &**work, tasks) {
-        Ok(made) => made,
-        Err((refused, _tasks)) => return Err(refused),
-    };
-    let board = Arc::new(alloc, board)?;
+    let mut flight = Flight::new(alloc, work, tasks)?;
+    send_passes(rt, to, work, &flight.board, &mut flight.pass, threads)?;
+    Ok(flight)
+}
+
+// Sends passes of a board, split off its first one, to so many threads. The error is that memory is out.
+fn send_passes<H: Wait>(
+    rt: &H,
+    to: &Sender<Message<Task>>,
+    work: &Arc<Work>,
+    board: &Arc<Board<Task>>,
+    pass: &mut Pass<Task>,
+    threads: u32,
+) -> Result<(), AllocError>
+    requires threads { threads ≤ 63 }
+    requires with { (about (arc_value board.now)).with ≡ arc_value work.now }
+    requires of { IsPassOf (arc_value board.now) pass.old }
+    requires first { hand pass.old ≡ first_hand }
+    ensures of { IsPassOf (arc_value board.now) pass.new }
+    ensures held { (hand pass.new).held ≡ [] }
+    ensures share { OnOk result ((hand pass.new).share + threads ≡ 64) }
+{
     for _sent in 0..threads {
-        let other = board.split(&mut pass);
-        send(rt, to, work, &board, other)?;
+        let other = board.split(pass);
+        send(rt, to, work, board, other)?;
     }
-    Ok(Flight {
-        board,
-        pass,
-        clerk,
-        taken: 0,
-    })
+    Ok(())
 }
 
 impl Flight {
+    // A board of at most 65,536 tasks, with its first pass. The error is that memory is out.
+    fn new(alloc: Global, work: &Work, tasks: Seq<Task>) -> Result<Flight, AllocError>
+        requires few { length tasks ≤ 65536 }
+        requires fits { All (Fits work.now) tasks }
+        ensures stands { IfOk result Stands }
+        ensures with { IfOk result (λ flight. (about (arc_value flight.board)).with ≡ work.now) }
+        ensures jobs { IfOk result (λ flight. (about (arc_value flight.board)).jobs ≡ tasks) }
+        ensures first { IfOk result (λ flight. hand flight.pass ≡ first_hand) }
+        ensures none { IfOk result (λ flight. flight.taken ≡ 0) }
+    {
+        let (board, pass, clerk) = match Board::new(alloc, work, tasks) {
+            Ok(made) => made,
+            Err((refused, _tasks)) => return Err(refused),
+        };
+        Ok(Flight {
+            board: Arc::new(alloc, board)?,
+            pass,
+            clerk,
+            taken: 0,
+        })
+    }
+
     /// Whether the oldest run is back.
     pub fn is_back(&mut self) -> bool
         requires stands { Stands self.old }

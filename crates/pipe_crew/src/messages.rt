@@ -60,7 +60,12 @@ pub fn serve<H: Wait, G: Gate>(
     from: Receiver<Message<Task>>,
 ) {
     for message in from.iter(rt) {
-        let Message { with, board, pass } = message;
-        drain(alloc, &board, &with, gate, mean_steps, pass);
+        drain_sent(alloc, gate, mean_steps, message);
     }
+}
+
+// Drains the board of a message by its pass.
+fn drain_sent<G: Gate>(alloc: Global, gate: &G, mean_steps: &MeanSteps, message: Message<Task>) {
+    let Message { with, board, pass } = message;
+    drain(alloc, &board, &with, gate, mean_steps, pass);
 }

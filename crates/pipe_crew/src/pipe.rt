@@ -82,6 +82,30 @@ fn start<H: Threads + Wait + Clone + Send + Sync + Drop + 'static, G: Gate + Sen
     Ok(thread.is_ok())
 }
 
+// Starts a lasting thread less than workers, and at most 63. It answers what they get boards by, and how many could be
+// made. The error is that memory is out.
+fn start_all<
+    H: Threads + Wait + Clone + Send + Sync + Drop + 'static,
+    G: Gate + Send + Drop + 'static,
+>(
+    rt: &H,
+    alloc: Global,
+    gate: &Arc<G>,
+    mean_steps: &Arc<MeanSteps>,
+    workers: u32,
+) -> Result<(Sender<Message<Task>>, usize), AllocError>
+    ensures { IfOk result (λ started. started.1 + 1 ≤ max 1 workers) }
+{
+    let (to, from) = crossbeam_channel::unbounded(alloc)?;
+    let mut threads = 0usize;
+    for _started in 1..workers.min(MOST_WORKERS) {
+        if start(rt, alloc, gate, mean_steps, &from)? {
+            threads = threads.saturating_add(1);
+        }
+    }
+    Ok((to, threads))
+}
+
 impl<
     'a,
     H: Threads + Wait + Clone + Send + Sync + Drop + 'static,
@@ -104,14 +128,8 @@ impl<
         ensures failed { IfOk result (λ c. ⟦<PipeCrew<'a, H, G> as Crew>⟧.failed c ≡ false) }
         ensures passes { IfOk result (λ c. c.threads + 1 ≤ max 1 workers) }
     {
-        let (to, from) = crossbeam_channel::unbounded(alloc)?;
         let mean_steps = Arc::new(alloc, MeanSteps::new(alloc, work))?;
-        let mut threads = 0usize;
-        for _started in 1..workers.min(MOST_WORKERS) {
-            if start(&rt, alloc, gate, &mean_steps, &from)? {
-                threads = threads.saturating_add(1);
-            }
-        }
+        let (to, threads) = start_all(&rt, alloc, gate, &mean_steps, workers)?;
         Ok(PipeCrew {
             alloc,
             gate: Arc::try_clone(gate)?,
@@ -157,13 +175,8 @@ impl<'a, H: Wait, G: Enter> PipeCrew<'a, H, G> {
         self.load = self
             .load
             .without(&self.mean_steps, tasks.as_slice(), self.inbox.len());
-        match launch(&self.rt, self.alloc, &self.to, self.work, helpers, tasks) {
-            Ok(flight) => Ok(flight),
-            Err(_) => {
-                self.inbox.fail();
-                Err(AllocError)
-            }
-        }
+        let flight = launch(&self.rt, self.alloc, &self.to, self.work, helpers, tasks);
+        self.inbox.noted(flight)
     }
 
     // Puts the tasks that wait on a board after the others, where they are worth it.
@@ -182,11 +195,8 @@ impl<'a, H: Wait, G: Enter> PipeCrew<'a, H, G> {
             return Ok(());
         }
         let flight = self.launch(helpers)?;
-        if let Err(_refused) = self.behind.push_back(flight) {
-            self.inbox.fail();
-            return Err(AllocError);
-        }
-        Ok(())
+        let put = self.behind.push_back(flight);
+        self.inbox.noted(put)
     }
 
     // Runs a task in this thread, and notes how many steps its run made.
@@ -199,14 +209,8 @@ impl<'a, H: Wait, G: Enter> PipeCrew<'a, H, G> {
         ensures threads { self.new.threads ≡ self.old.threads }
         ensures fails { OnErr result (self.new.inbox ≡ record self.old.inbox { failed = true }) }
     {
-        match run_noted(self.alloc, self.work, &self.mean_steps, task) {
-            Ok(done) => Ok(done),
-            Err(unrun) => {
-                drop(unrun);
-                self.inbox.fail();
-                Err(AllocError)
-            }
-        }
+        let run = run_noted(self.alloc, self.work, &self.mean_steps, task);
+        self.inbox.noted(run)
     }
 
     // Runs the oldest task that waits in this thread.
@@ -257,6 +261,33 @@ impl<'a, H: Wait, G: Enter> PipeCrew<'a, H, G> {
         Ok(())
     }
 
+    // Takes the board whose runs are handed back, or puts the tasks that wait on one; `None` where they are worth the
+    // calling thread alone.
+    fn take_first(&mut self) -> Result<Option<Flight>, AllocError>
+        requires fly { AreFlying self.old.inbox.work (self.old.threads + 1) self.old.inbox.failed self.old.first self.old.behind.items }
+        requires open { self.old.inbox.failed ≡ false }
+        ensures none { self.new.first ≡ None }
+        ensures flies { IfOk result (λ found. IfSome found (IsFlight self.old.inbox.work (self.old.threads + 1))) }
+        ensures fly { All (IsFlight self.old.inbox.work (self.old.threads + 1)) self.new.behind.items }
+        ensures alone { IfOk result (λ found. found ≡ None → self.new.behind.items ≡ []) }
+        ensures out { IfOk result (λ found. left_all self.old.first self.old.behind.items ++ self.old.inbox.out ≡ left_all found self.new.behind.items ++ self.new.inbox.out) }
+        ensures posts { KeepsPosts self.old.inbox self.new.inbox }
+        ensures threads { self.new.threads ≡ self.old.threads }
+        ensures open { OnOk result (self.new.inbox.failed ≡ self.old.inbox.failed) }
+        ensures fails { OnErr result (self.new.inbox.failed ≡ true) }
+    {
+        if let Some(flight) = self.first.take() {
+            return Ok(Some(flight));
+        }
+        let others = self.inbox.len().saturating_sub(1);
+        let helpers = self.helpers(self.load.beside_one(), others);
+        if helpers == 0 {
+            return Ok(None);
+        }
+        let flight = self.launch(helpers)?;
+        Ok(Some(flight))
+    }
+
     // Makes a board the first again, or the next one, where all its runs were taken.
     fn put_first(&mut self, flight: Flight)
         requires stands { Stands flight }
@@ -293,14 +324,7 @@ impl<'a, H: Wait, G: Enter> PipeCrew<'a, H, G> {
         self.bring_back(&mut flight)?;
         let run = flight.take();
         self.put_first(flight);
-        match run {
-            Ok(done) => Ok(done),
-            Err(unrun) => {
-                drop(unrun);
-                self.inbox.fail();
-                Err(AllocError)
-            }
-        }
+        self.inbox.noted(run)
     }
 }
 
@@ -323,16 +347,9 @@ impl<'a, H: Wait, G: Enter> Crew for PipeCrew<'a, H, G> {
 
     fn next<R: Threads + Sync>(&mut self, _rt: &R) -> Result<Option<Done>, AllocError> {
         self.inbox.open()?;
-        if let Some(flight) = self.first.take() {
-            let done = self.land(flight)?;
-            return Ok(Some(done));
-        }
-        let others = self.inbox.len().saturating_sub(1);
-        let helpers = self.helpers(self.load.beside_one(), others);
-        if helpers == 0 {
+        let Some(flight) = self.take_first()? else {
             return self.run_oldest();
-        }
-        let flight = self.launch(helpers)?;
+        };
         let done = self.land(flight)?;
         Ok(Some(done))
     }

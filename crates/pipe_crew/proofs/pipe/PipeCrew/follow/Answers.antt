@@ -1,6 +1,10 @@
-use Rattle.std.proofs.Common.{◌+◌}
-use Rattle.std.proofs.lemmas.List.Elements.{All-push}
-use Rattle.pipe_crew.specs.inner.Flights.{IsFlight}
+use Rattle.std.proofs.Common.{◌≡◌, ◌+◌, ◌++◌, is_ok, ap, ◌∙◌}
+use Rattle.std.specs.List.{flat_map}
+use Rattle.std.proofs.lemmas.Result.{on_ok_weaker, on_err_weaker}
+use Rattle.crew.specs.State.{CrewState}
+use Rattle.crew.proofs.Noted.{handed_on_beside}
+use Rattle.pipe_crew.specs.inner.Flights.{IsFlight, left_in}
+use Rattle.pipe_crew.proofs.Flying.{all_put, out_put}
 use Rattle.pipe_crew.proofs.pipe.PipeCrew.follow.Goals as goal
 
 pub returns-clause-fly : goal.returns-clause-fly
@@ -8,5 +12,30 @@ returns-clause-fly g c =
     let w = c.args.self.now.inbox.work in
     let most = c.args.self.now.threads + 1 in
     let launched = c.in_ok-flight.ensures in
-    rw (c.in_default.ensures.items, launched.boards.1, launched.posts.0, launched.threads)
-    (All-push (IsFlight w most) c.args.self.now.behind.items c.in_ok-flight.flight c.requires.fly launched.flight)
+    rw (c.noted.ensures.others, launched.posts.0, launched.threads)
+    (all_put (IsFlight w most) (is_ok c.push_back-put.result) c.args.self.now.behind.items c.push_back-put.new.self.items c.in_ok-flight.flight
+    (rw (← launched.boards.1) c.push_back-put.ensures.items) c.requires.fly launched.flight)
+
+pub returns-clause-out : goal.returns-clause-out
+returns-clause-out g c =
+    let launched = c.in_ok-flight.ensures in
+    let then = c.launch.new.self.inbox in
+    let before = c.args.self.now.behind.items in
+    let after = c.push_back-put.new.self.items in
+    handed_on_beside (λ (inbox : CrewState) _. flat_map left_in after ++ inbox.out ≡ flat_map left_in before ++ c.args.self.now.inbox.out)
+    then c.noted.new.self c.push_back-put.result c.noted.result c.noted.ensures.value c.noted.ensures.ok
+    (out_put c.push_back-put.result before after c.in_ok-flight.flight c.args.self.now.inbox.out then.out
+    (rw (← launched.boards.1) c.push_back-put.ensures.items) launched.out)
+
+pub returns-clause-posts : goal.returns-clause-posts
+returns-clause-posts g c =
+    let noted = c.noted.ensures.others in
+    let launched = c.in_ok-flight.ensures.posts in
+    (ap (λ s. s.work) noted ∙ launched.0, ap (λ s. s.posted) noted ∙ launched.1)
+
+pub returns-clause-open : goal.returns-clause-open
+returns-clause-open g c =
+    on_ok_weaker c.noted.result (λ kept. ap (λ s. s.failed) kept ∙ c.in_ok-flight.ensures.open) c.noted.ensures.ok
+
+pub returns-clause-fails : goal.returns-clause-fails
+returns-clause-fails g c = on_err_weaker c.noted.result (λ is. ap (λ s. s.failed) is) c.noted.ensures.err

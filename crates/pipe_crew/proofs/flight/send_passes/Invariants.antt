@@ -1,7 +1,7 @@
 use Rattle.std.proofs.Common.{◌≡◌, ◌+◌, [], None}
 use Rattle.std.specs.Arc.{arc_value}
 use Rattle.desk_board.specs.Held.{hand, IsPassOf}
-use Rattle.pipe_crew.proofs.flight.launch.Given as goal
+use Rattle.pipe_crew.proofs.flight.send_passes.Given as goal
 
 abbrev pub invariant-loop-sent : goal.invariant-loop-sent
 invariant-loop-sent g l = record {
