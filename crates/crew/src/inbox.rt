@@ -87,6 +87,7 @@ impl<'a> Inbox<'a> {
         ensures value { IfOk result (λ value. answer ≡ Ok value) }
         ensures ok { OnOk result (self.new ≡ self.old) }
         ensures err { OnErr result (self.new ≡ record self.old { failed = true }) }
+        ensures cause { OnErr result (IsErr answer) }
         ensures others { self.new ≡ record self.old { failed = self.new.failed } }
     {
         match answer {
