@@ -126,8 +126,7 @@ fn put_one_rechecked<R: Threads + Sync, O: Sink, G: Gate>(
     };
     let put = put_untold(rt, alloc, &basis, begins, out, gate);
     drop(plan);
-    let Work { recheck, .. } = work;
-    (put, recheck)
+    (put, work.into_recheck())
 }
 
 // How a run of a program on one thread ended whose subthreads were walked twice. Where the recheck stopped it, the line of
@@ -209,8 +208,7 @@ pub fn carry_out<R: Threads + Sync, O: Sink, E: Sink, G: Gate>(
             };
             let outcome = carry_by_kind(rt, alloc, &basis, begins, out, err, gate);
             drop(plan);
-            let Work { recheck, .. } = work;
-            (outcome, recheck)
+            (outcome, work.into_recheck())
         }
     }
 }

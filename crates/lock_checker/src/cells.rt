@@ -20,10 +20,15 @@ pub struct CellRange {
 }
 
 /// The cells of all lock arrays, or of all records, by the name of the array, and how many they are.
-#[derive(Drop)]
 pub struct Numbering {
     pub cells: SymbolTable<CellRange>,
     pub count: u32,
+}
+
+impl Drop for Numbering {
+    fn drop(self) {
+        let Self { cells: _, count: _ } = self;
+    }
 }
 
 impl Numbering {

@@ -11,7 +11,6 @@ use std::alloc::{AllocError, Global};
 use task_ast::{Head, Layout, Program, natural};
 
 /// A program that keeps all rules of names, counts and held locks.
-#[derive(Drop)]
 pub struct Checked {
     program: Program,
     locks: Numbering,
@@ -19,6 +18,16 @@ pub struct Checked {
     pub ghost accepted: { IsAccepted (plain_program program) },
     ghost locks_numbered: { IsNumbered locks (locks_of program.heads) },
     ghost records_numbered: { IsNumbered records (records_of program.heads) },
+}
+
+impl Drop for Checked {
+    fn drop(self) {
+        let Self {
+            program: _,
+            locks: _,
+            records: _,
+        } = self;
+    }
 }
 
 impl Checked {

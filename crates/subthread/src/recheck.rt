@@ -50,7 +50,6 @@ fn sums_over(alloc: Global, feed: &Feed, turned: i64) -> Result<Nums, AllocError
 /// Whether each walk of a batch is made twice and compared, and a sum is kept of what it leaves at rest and of the feeds;
 /// how often walks differed; which task's could not be agreed on, and at which one data were not as they were left. All
 /// workers of the batch share it, and write it in no order; nothing hangs on it but what is told of it.
-#[derive(Drop)]
 pub struct Recheck {
     twice: bool,
     disturbance: Option<Disturbance>,
@@ -60,6 +59,21 @@ pub struct Recheck {
     last: AtomicU64,
     disagreed: AtomicU64,
     damaged: AtomicU64,
+}
+
+impl Drop for Recheck {
+    fn drop(self) {
+        let Self {
+            twice: _,
+            disturbance: _,
+            feeds: _,
+            to_disturb: _,
+            differed: _,
+            last: _,
+            disagreed: _,
+            damaged: _,
+        } = self;
+    }
 }
 
 impl Recheck {

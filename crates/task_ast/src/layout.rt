@@ -6,9 +6,14 @@ ghost use Rattle.task_ast.specs.meaning.Names.{natural};
 use gp_base::{RecNo, Seq};
 
 /// For each lock cell the record cells under it, in rising order.
-#[derive(Drop)]
 pub struct Layout {
     pub under: Seq<Seq<RecNo>>,
+}
+
+impl Drop for Layout {
+    fn drop(self) {
+        let Self { under: _ } = self;
+    }
 }
 
 /// The number that a declaration states, as a size; one below 0 counts as 0.

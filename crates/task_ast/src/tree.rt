@@ -3,10 +3,15 @@
 use gp_base::{Name, Seq};
 
 /// A batch program: what it declares, then its tasks, both in text order.
-#[derive(Drop)]
 pub struct Program {
     pub heads: Seq<Head>,
     pub tasks: Seq<TaskText>,
+}
+
+impl Drop for Program {
+    fn drop(self) {
+        let Self { heads: _, tasks: _ } = self;
+    }
 }
 
 /// A declaration of a lock array, a barrier, a record or a feed. `from` is the name of a file.
@@ -38,13 +43,24 @@ pub enum Head {
 }
 
 /// The text of a task: its parameters, its var lines and its statements.
-#[derive(Drop)]
 pub struct TaskText {
     pub name: Name,
     pub params: Seq<Param>,
     pub vars: Seq<VarLine>,
     pub body: Seq<Stmt>,
     pub line: u32,
+}
+
+impl Drop for TaskText {
+    fn drop(self) {
+        let Self {
+            name: _,
+            params: _,
+            vars: _,
+            body: _,
+            line: _,
+        } = self;
+    }
 }
 
 /// A control variable, or a data variable by its name without the `$`.

@@ -22,9 +22,14 @@ use task_ast::Layout;
 /// The code of an accepted program, beside its layout. Contracts see the program and the instructions of each task;
 /// each jump leads to an instruction or after the last one, each variable exists, and a number of 32 bits counts the
 /// instructions of a task.
-#[derive(Drop)]
 pub struct Code {
     parts: Parts,
+}
+
+impl Drop for Code {
+    fn drop(self) {
+        let Self { parts: _ } = self;
+    }
 }
 
 impl Model for Code {

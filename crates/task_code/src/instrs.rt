@@ -68,10 +68,15 @@ pub enum Does {
 }
 
 /// An instruction, with the line of its statement.
-#[derive(Drop)]
 pub struct Instr {
     pub does: Does,
     pub line: u32,
+}
+
+impl Drop for Instr {
+    fn drop(self) {
+        let Self { does: _, line: _ } = self;
+    }
 }
 
 /// How many control variables and how many registers a task has.

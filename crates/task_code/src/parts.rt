@@ -7,7 +7,6 @@ use task_ast::{Layout, Program};
 
 /// The instructions, the shape and the number of control parameters of each task in text order, the number of `main`,
 /// the stated numbers of the barriers, the record cells under each lock cell, and the lock cell over each record cell.
-#[derive(Drop)]
 pub struct Parts {
     pub program: Snapshot<Program>,
     pub tasks: Seq<Seq<Instr>>,
@@ -17,4 +16,19 @@ pub struct Parts {
     pub barriers: Seq<u32>,
     pub layout: Layout,
     pub over: Seq<LockNo>,
+}
+
+impl Drop for Parts {
+    fn drop(self) {
+        let Self {
+            program: _,
+            tasks: _,
+            shapes: _,
+            params: _,
+            main: _,
+            barriers: _,
+            layout: _,
+            over: _,
+        } = self;
+    }
 }
