@@ -2,12 +2,12 @@
 -- heads. A list that grows by what belongs to the next number is the list of what belongs to all numbers below a count,
 -- so that what is collected head by head is what the definitions say of each number; the places of a lock cell are then
 -- the record cells under it.
-use Rattle.std.proofs.Common.{◌≡◌, ◌≢◌, ℕ, zero, suc, ◌+◌, ◌-◌, ◌≤◌, ◌<◌, ◌==◌, Bool, true, false, not, cond, List, [], ◌∷◌, ◌++◌, map, length, Option, Some, None, is_none, refl, sym, ap, ◌∙◌, arith, option_map, add-one, zero-add, append_assoc, append-nil, subst, take, set, get_or}
+use Rattle.std.proofs.Common.{◌≡◌, ◌≢◌, ℕ, zero, suc, ◌+◌, ◌-◌, ◌≤◌, ◌<◌, ◌==◌, Bool, true, false, not, cond, List, [], ◌∷◌, ◌++◌, map, length, Option, Some, None, is_none, refl, sym, ap, ◌∙◌, arith, option_map, add-one, zero-add, append_assoc, append-nil, subst, take, drop, set, get_or}
 use Rattle.std.specs.Prelude.{pos, slice_get}
 use Rattle.std.specs.Option.{option_map_or}
 use Rattle.std.specs.List.{list_all, filter}
 use Rattle.std.proofs.lemmas.Bool.{ne_eqb, eq-eqb, lt-ltb, le-ltb, and_parts}
-use Rattle.std.proofs.lemmas.List.{map-append, length-append, length-map, length-take-le, take_more}
+use Rattle.std.proofs.lemmas.List.{map-append, length-append, length-map, length-take-le, take_more, at_drop_more}
 use Rattle.task_ast.specs.declared.tree.Head.{Head}
 use Rattle.task_ast.specs.declared.tree.Head.TheVariants.{LockHead, BarrierHead, RecHead, FeedHead}
 use Rattle.task_ast.specs.meaning.Tree.{Name}
@@ -17,6 +17,7 @@ use Rattle.task_ast.specs.Layout.{base_of, fits_array}
 use Rattle.task_ast.specs.meaning.Table.{numbers}
 use Rattle.task_ast.proofs.Layouts.{array_found, length-numbers}
 use Rattle.lock_checker.specs.inner.Positions.{positions, numbers_at, cells_over}
+use Rattle.lock_checker.proofs.HeadLemmas.{record_cells-append}
 
 numbers-more : (a n : ℕ) → numbers a (suc n) ≡ numbers a n ++ (a + n) ∷ []
 numbers-more a zero = ap (λ k. k ∷ []) (omega arith)
@@ -240,3 +241,25 @@ length-cells_over arrays (RecHead name size by from line ∷ heads) =
     let first = length-numbers_at (base_of arrays by) (natural size) in
     let rest = length-cells_over arrays heads in
     omega arith
+
+cells_over-cons : (arrays : List (Name × ℕ)) (h : Head) (heads : List Head)
+    → cells_over arrays (h ∷ heads) ≡ cells_over arrays (h ∷ []) ++ cells_over arrays heads
+cells_over-cons arrays (LockHead name size line) heads = refl
+cells_over-cons arrays (BarrierHead name number line) heads = refl
+cells_over-cons arrays (RecHead name size by from line) heads =
+    ap (λ l. l ++ cells_over arrays heads) (sym (append-nil (numbers_at (base_of arrays by) (natural size))))
+cells_over-cons arrays (FeedHead name fields from line) heads = refl
+
+module _ (heads : List Head) (i : ℕ) (h : Head) (within : i < length heads) (is : h ≡ get_or heads i h) where
+  -- the lock cells over the record cells of the heads left, at the next head
+  pub over_next : (arrays : List (Name × ℕ))
+      → cells_over arrays (drop i heads) ≡ cells_over arrays (h ∷ []) ++ cells_over arrays (drop (i + 1) heads)
+  over_next arrays =
+      at_drop_more (cells_over arrays) heads i h within ∙ ap (λ (y : Head). cells_over arrays (y ∷ drop (i + 1) heads)) (sym is)
+      ∙ cells_over-cons arrays h (drop (i + 1) heads)
+
+  pub record_cells_next : cells_in (records_of (drop i heads)) ≡ cells_in (records_of (h ∷ [])) + cells_in (records_of (drop (i + 1) heads))
+  record_cells_next =
+      at_drop_more (λ l. cells_in (records_of l)) heads i h within
+      ∙ ap (λ (y : Head). cells_in (records_of (y ∷ drop (i + 1) heads))) (sym is)
+      ∙ record_cells-append (h ∷ []) (drop (i + 1) heads)

@@ -7,6 +7,7 @@ pub mod ChangeLemmas
 pub mod EndLemmas
 pub mod HeadLemmas
 pub mod HoldingLemmas
+pub mod IndexLemmas
 pub mod LayoutLemmas
 pub mod LockCells
 pub mod LockOwners

@@ -31,9 +31,9 @@ impl Drop for Checked {
 }
 
 impl Checked {
-    ghost use Rattle.std.specs.Prelude.{◌≡◌, ℕ, ◌≤◌, slice_get, IfOk, IfSome};
+    ghost use Rattle.std.specs.Prelude.{◌≡◌, ℕ, ◌≤◌, [], ◌∷◌, ◌++◌, slice_get, IfOk, OnOk, IfSome};
     ghost use Rattle.gp_base.specs.declared.limits.TheConstants.{MOST_CELLS};
-    ghost use Rattle.task_ast.specs.meaning.Names.{locks_of, records_of};
+    ghost use Rattle.task_ast.specs.meaning.Names.{locks_of, records_of, cells_in};
     ghost use Rattle.task_ast.specs.meaning.Layout.{lock_over, layout};
     ghost use Rattle.task_ast.specs.Layout.{base_of};
     ghost use Rattle.lock_checker.specs.Accepted.{program_of};
@@ -87,17 +87,27 @@ impl Checked {
         self.records.array(x)
     }
 
+    // Adds the lock cells over the record cells of a head.
+    fn add_over(&self, over: &mut Vec<LockNo>, head: &Head) -> Result<(), AllocError>
+        requires { cells_in (records_of (head.now ∷ [])) ≤ MOST_CELLS }
+        ensures { OnOk result (over.new.items ≡ over.old.items ++ cells_over (locks_of (program_of self.now).heads) (head.now ∷ [])) }
+    {
+        match head {
+            Head::RecHead { by, size, .. } => match self.lock_base(by) {
+                Some(base) => push_numbers(over, base, natural(*size) as u32),
+                None => Ok(()),
+            },
+            Head::LockHead { .. } | Head::BarrierHead { .. } | Head::FeedHead { .. } => Ok(()),
+        }
+    }
+
     // The lock cell over each record cell.
     fn locks_over(&self, alloc: Global) -> Result<Vec<LockNo>, AllocError>
         ensures { IfOk result (λ over. over.items ≡ cells_over (locks_of (program_of self.now).heads) (program_of self.now).heads) }
     {
         let mut over = Vec::new(alloc);
         for head in self.program.heads.as_slice() {
-            if let Head::RecHead { by, size, .. } = head {
-                if let Some(base) = self.lock_base(by) {
-                    push_numbers(&mut over, base, natural(*size) as u32)?;
-                }
-            }
+            self.add_over(&mut over, head)?;
         }
         Ok(over)
     }

@@ -10,9 +10,14 @@ use std::alloc::{AllocError, Global};
 use std::collections::BTreeSet;
 
 /// A set of pairs, in the order of their indexes.
-#[derive(Drop)]
 pub struct Pairs<'a> {
     members: BTreeSet<Pair<'a>>,
+}
+
+impl<'a> Drop for Pairs<'a> {
+    fn drop(self) {
+        let Self { members: _ } = self;
+    }
 }
 
 impl<'a> Pairs<'a> {

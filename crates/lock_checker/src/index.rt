@@ -1,10 +1,8 @@
 // What a program declares, by name.
-ghost use Rattle.std.specs.Prelude.{◌≡◌, IfOk, is_some, option_map, ◌||◌};
-ghost use Rattle.task_ast.specs.meaning.Tree as plain;
-ghost use Rattle.task_ast.specs.meaning.Names.{is_among, named, locks_of, arrays_over, barriers_of, feeds_of, task_named};
-ghost use Rattle.task_ast.specs.View.{plain_task, plain_program};
-ghost use Rattle.lock_checker.specs.Tables.{found};
-ghost use Rattle.lock_checker.specs.inner.Indexes.{target, IsIndexOf};
+ghost use Rattle.std.specs.Prelude.{List, [], ◌∷◌, ◌++◌, IfOk, OnOk};
+ghost use Rattle.task_ast.specs.declared.tree.Head.{Head as PlainHead};
+ghost use Rattle.task_ast.specs.declared.tree.TaskText.{TaskText as PlainTask};
+ghost use Rattle.lock_checker.specs.inner.Indexes.{Finds, IsIndexOf};
 
 use crate::symbol_table::SymbolTable;
 use gp_base::Name;
@@ -13,7 +11,6 @@ use task_ast::{Head, Program, TaskText, natural};
 
 /// The sizes of the lock arrays, the lock array of each record, the barriers, the feeds and the tasks; of a name that
 /// is declared twice the first counts.
-#[derive(Drop)]
 pub struct ProgramIndex<'a> {
     pub locks: SymbolTable<u64>,
     pub arrays: SymbolTable<&'a Name>,
@@ -22,86 +19,67 @@ pub struct ProgramIndex<'a> {
     pub tasks: SymbolTable<&'a TaskText>,
 }
 
-#[tactic(auto, using(crate::proofs::TableLemmas::put_steps))]
-fn lock_table(alloc: Global, heads: &[Head]) -> Result<SymbolTable<u64>, AllocError>
-    ensures { IfOk result (λ t. (x : plain.Name) → found t x ≡ named x (locks_of heads.now)) }
-{
-    let mut table = SymbolTable::new(alloc);
-    for head in heads {
-        if let Head::LockHead { name, size, .. } = head {
-            table.put(name, natural(*size))?;
-        }
+impl<'a> Drop for ProgramIndex<'a> {
+    fn drop(self) {
+        let Self {
+            locks: _,
+            arrays: _,
+            barriers: _,
+            feeds: _,
+            tasks: _,
+        } = self;
     }
-    Ok(table)
 }
 
-#[tactic(auto, using(crate::proofs::TableLemmas::put_steps))]
-fn array_table<'a>(alloc: Global, heads: &'a [Head]) -> Result<SymbolTable<&'a Name>, AllocError>
-    ensures { IfOk result (λ t. (x : plain.Name) → option_map target (found t x) ≡ named x (arrays_over heads.now)) }
-{
-    let mut table = SymbolTable::new(alloc);
-    for head in heads {
-        if let Head::RecHead { name, by, .. } = head {
-            table.put(name, by)?;
+impl<'a> ProgramIndex<'a> {
+    fn new(alloc: Global) -> Self
+        ensures { Finds result [] [] }
+    {
+        ProgramIndex {
+            locks: SymbolTable::new(alloc),
+            arrays: SymbolTable::new(alloc),
+            barriers: SymbolTable::new(alloc),
+            feeds: SymbolTable::new(alloc),
+            tasks: SymbolTable::new(alloc),
         }
     }
-    Ok(table)
-}
 
-#[tactic(auto, using(crate::proofs::TableLemmas::put_steps))]
-fn barrier_table(alloc: Global, heads: &[Head]) -> Result<SymbolTable<()>, AllocError>
-    ensures { IfOk result (λ t. (x : plain.Name) → is_some (found t x) ≡ is_some (named x (barriers_of heads.now))) }
-{
-    let mut table = SymbolTable::new(alloc);
-    for head in heads {
-        if let Head::BarrierHead { name, .. } = head {
-            table.put(name, ())?;
+    // Adds what a head declares.
+    fn add_head(&mut self, head: &'a Head) -> Result<(), AllocError>
+        ensures { OnOk result ((heads : List PlainHead) (tasks : List PlainTask) → Finds self.old heads tasks → Finds self.new (heads ++ head.now ∷ []) tasks) }
+    {
+        match head {
+            Head::LockHead { name, size, .. } => self.locks.put(name, natural(*size)),
+            Head::BarrierHead { name, .. } => self.barriers.put(name, ()),
+            Head::RecHead { name, by, .. } => self.arrays.put(name, by),
+            Head::FeedHead { name, .. } => self.feeds.put(name, ()),
         }
     }
-    Ok(table)
+
+    fn add_task(&mut self, task: &'a TaskText) -> Result<(), AllocError>
+        ensures { OnOk result ((heads : List PlainHead) (tasks : List PlainTask) → Finds self.old heads tasks → Finds self.new heads (tasks ++ task.now ∷ [])) }
+    {
+        self.tasks.put(&task.name, task)
+    }
 }
 
-#[tactic(auto, using(crate::proofs::TableLemmas::put_steps))]
-fn feed_table(alloc: Global, heads: &[Head]) -> Result<SymbolTable<()>, AllocError>
-    ensures { IfOk result (λ t. (x : plain.Name) → is_some (found t x) ≡ is_among x (feeds_of heads.now)) }
+// The index of heads alone.
+fn index_heads<'a>(alloc: Global, heads: &'a [Head]) -> Result<ProgramIndex<'a>, AllocError>
+    ensures { IfOk result (λ index. Finds index heads.now []) }
 {
-    let mut table = SymbolTable::new(alloc);
+    let mut index = ProgramIndex::new(alloc);
     for head in heads {
-        if let Head::FeedHead { name, .. } = head {
-            table.put(name, ())?;
-        }
+        index.add_head(head)?;
     }
-    Ok(table)
-}
-
-#[tactic(auto, using(crate::proofs::TableLemmas::put_steps))]
-fn task_table<'a>(
-    alloc: Global,
-    program: &'a Program,
-) -> Result<SymbolTable<&'a TaskText>, AllocError>
-    ensures { IfOk result (λ t. (x : plain.Name) → option_map (λ task. plain_task task.now) (found t x) ≡ task_named (plain_program program.now) x) }
-{
-    let mut table = SymbolTable::new(alloc);
-    for task in program.tasks.as_slice() {
-        table.put(&task.name, task)?;
-    }
-    Ok(table)
+    Ok(index)
 }
 
 pub fn index_of<'a>(alloc: Global, program: &'a Program) -> Result<ProgramIndex<'a>, AllocError>
     ensures { IfOk result (λ index. IsIndexOf index program.now) }
 {
-    let heads = program.heads.as_slice();
-    let locks = lock_table(alloc, heads)?;
-    let arrays = array_table(alloc, heads)?;
-    let barriers = barrier_table(alloc, heads)?;
-    let feeds = feed_table(alloc, heads)?;
-    let tasks = task_table(alloc, program)?;
-    Ok(ProgramIndex {
-        locks,
-        arrays,
-        barriers,
-        feeds,
-        tasks,
-    })
+    let mut index = index_heads(alloc, program.heads.as_slice())?;
+    for task in program.tasks.as_slice() {
+        index.add_task(task)?;
+    }
+    Ok(index)
 }

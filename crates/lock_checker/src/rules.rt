@@ -304,7 +304,6 @@ fn choice_rule(scope: &Scope, e: &Expr) -> Option<CheckKind>
 }
 
 /// The lowest rule that fails at the beginning of a statement.
-#[tactic(auto, using(task_ast::proofs::Views::view))]
 pub fn rule_at<'a>(scope: &Scope<'_, 'a>, what: &'a What, held: &Pairs<'a>) -> Option<CheckKind>
     requires { IsScope scope.now }
     ensures { result ≡ lowest (fails_at (scope_of scope.now) (plain_what what.now) (pairs_in held.now)) }

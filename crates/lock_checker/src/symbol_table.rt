@@ -9,10 +9,15 @@ use std::alloc::{AllocError, Global};
 use std::collections::BTreeMap;
 
 /// What stands beside each name: the first that was put there.
-#[derive(Drop)]
 pub struct SymbolTable<T: Copy> {
     pub first: BTreeMap<Vec<u8>, T>,
     alloc: Global,
+}
+
+impl<T: Copy> Drop for SymbolTable<T> {
+    fn drop(self) {
+        let Self { first: _, alloc: _ } = self;
+    }
 }
 
 impl<T: Copy> SymbolTable<T> {

@@ -11,10 +11,18 @@ use std::alloc::{AllocError, Global};
 use task_ast::{Param, TaskText};
 
 /// The control variables and the data variables of a task but `$ret`, by name.
-#[derive(Drop)]
 pub struct Variables {
     pub controls: SymbolTable<()>,
     pub datas: SymbolTable<()>,
+}
+
+impl Drop for Variables {
+    fn drop(self) {
+        let Self {
+            controls: _,
+            datas: _,
+        } = self;
+    }
 }
 
 /// Whether this is the name of the data variable that each task has.
