@@ -1,17 +1,19 @@
 -- Statements of a block one after the other.
 use Rattle.std.proofs.Common.{◌≡◌, ℕ, ◌+◌, ◌<◌, List, [], ◌∷◌, ◌++◌, Option, None, refl, ap, ◌∙◌, sym, length, get_or, drop}
+use Rattle.std.specs.Prelude.{not}
 use Rattle.std.proofs.lemmas.List.{at_drop_more}
 use Rattle.task_ast.specs.declared.check_kind.CheckKind.{CheckKind}
 use Rattle.task_ast.specs.declared.tree.Stmt.{Stmt}
 use Rattle.task_ast.specs.meaning.Tree as plain
 use Rattle.task_ast.specs.meaning.Declarations.{Scope}
-use Rattle.task_ast.specs.meaning.Held.{Pair, has, held_after, held_at_end}
+use Rattle.task_ast.specs.meaning.Held.{Pair, has, held_after, held_at_end, same_pairs}
 use Rattle.task_ast.specs.meaning.Check.{visits_of, visits_in}
 use Rattle.task_ast.specs.View.{plain_expr, plain_what, plain_stmt, plain_block}
 use Rattle.task_ast.specs.declared.tree.Expr.{Expr}
-use Rattle.task_ast.specs.declared.tree.What.{When}
-use Rattle.task_ast.proofs.Views.{stmt_At, what_When}
-use Rattle.task_ast.specs.meaning.Visit.{Visit, visit, first_fault}
+use Rattle.task_ast.specs.declared.check_kind.CheckKind.TheVariants.{BranchesDiffer}
+use Rattle.task_ast.specs.declared.tree.What.{While, If, When}
+use Rattle.task_ast.proofs.Views.{stmt_At, what_While, what_If, what_When}
+use Rattle.task_ast.specs.meaning.Visit.{Visit, visit, fails_if, first_fault}
 use Rattle.lock_checker.specs.declared.fault.CheckFault.{CheckFault}
 use Rattle.lock_checker.specs.Accepted.{Told}
 use Rattle.lock_checker.specs.inner.Faults.{later_visits}
@@ -75,3 +77,37 @@ module _ (s : Stmt) (e : Expr) (first second : List Stmt) (is : s.what ≡ When 
       ap (λ st. later_visits scope st old) whole
       ∙ ap (λ l. (visits_in scope (plain_block l) old ++ visits_in scope (plain_block second) old) ++ visit s.line [] ∷ []) (sym is_a)
       ∙ ap (λ l. (visits_in scope (plain_block a) old ++ visits_in scope (plain_block l) old) ++ visit s.line [] ∷ []) (sym is_b)
+
+-- a loop
+module _ (s : Stmt) (e : Expr) (body : List Stmt) (is : s.what ≡ While e body) where
+  loop : plain_stmt s ≡ plain.At s.line (plain.While (plain_expr e) (plain_block body))
+  loop = stmt_At s ∙ ap (plain.At s.line) (ap plain_what is ∙ what_While e body)
+
+  pub loop_held : (old : List Pair) → held_after (plain_stmt s) old ≡ old
+  loop_held old = ap (λ st. held_after st old) loop
+
+  pub loop_visits : (scope : Scope) (old : List Pair) (b : List Stmt) → b ≡ body
+      → later_visits scope (plain_stmt s) old ≡ visits_in scope (plain_block b) old
+      ++ visit s.line (fails_if (not (same_pairs (held_at_end (plain_block b) old) old)) BranchesDiffer) ∷ []
+  loop_visits scope old b is_b =
+      ap (λ st. later_visits scope st old) loop
+      ∙ ap (λ l. visits_in scope (plain_block l) old
+      ++ visit s.line (fails_if (not (same_pairs (held_at_end (plain_block l) old) old)) BranchesDiffer) ∷ []) (sym is_b)
+
+-- an `if`
+module _ (s : Stmt) (e : Expr) (first second : List Stmt) (is : s.what ≡ If e first second) where
+  branches : plain_stmt s ≡ plain.At s.line (plain.If (plain_expr e) (plain_block first) (plain_block second))
+  branches = stmt_At s ∙ ap (plain.At s.line) (ap plain_what is ∙ what_If e first second)
+
+  pub branches_held : (old : List Pair) (a : List Stmt) → a ≡ first → held_after (plain_stmt s) old ≡ held_at_end (plain_block a) old
+  branches_held old a is_a = ap (λ st. held_after st old) branches ∙ ap (λ l. held_at_end (plain_block l) old) (sym is_a)
+
+  pub branches_visits : (scope : Scope) (old : List Pair) (a b : List Stmt) → a ≡ first → b ≡ second
+      → later_visits scope (plain_stmt s) old ≡ (visits_in scope (plain_block a) old ++ visits_in scope (plain_block b) old)
+      ++ visit s.line (fails_if (not (same_pairs (held_at_end (plain_block a) old) (held_at_end (plain_block b) old))) BranchesDiffer) ∷ []
+  branches_visits scope old a b is_a is_b =
+      ap (λ st. later_visits scope st old) branches
+      ∙ ap (λ l. (visits_in scope (plain_block l) old ++ visits_in scope (plain_block second) old) ++ visit s.line
+      (fails_if (not (same_pairs (held_at_end (plain_block l) old) (held_at_end (plain_block second) old))) BranchesDiffer) ∷ []) (sym is_a)
+      ∙ ap (λ l. (visits_in scope (plain_block a) old ++ visits_in scope (plain_block l) old) ++ visit s.line
+      (fails_if (not (same_pairs (held_at_end (plain_block a) old) (held_at_end (plain_block l) old))) BranchesDiffer) ∷ []) (sym is_b)

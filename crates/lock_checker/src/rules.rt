@@ -1,10 +1,10 @@
 // The rules at the beginning of a statement.
-ghost use Rattle.std.specs.Prelude.{◌≡◌, [], zip, length, not, false};
+ghost use Rattle.std.specs.Prelude.{◌≡◌, [], zip, length, not, ◌||◌, false};
 ghost use Rattle.std.specs.Option.{option_map_or};
 ghost use Rattle.std.specs.List.{list_any};
 ghost use Rattle.task_ast.specs.meaning.Tree as plain;
 ghost use Rattle.task_ast.specs.meaning.Check.{fails_at};
-ghost use Rattle.task_ast.specs.meaning.Declarations.{is_control, is_register, is_misplaced};
+ghost use Rattle.task_ast.specs.meaning.Declarations.{has_unknown, is_control, is_register, is_misplaced};
 ghost use Rattle.task_ast.specs.meaning.Held.{is_index};
 ghost use Rattle.task_ast.specs.View.{plain_expr, plain_exprs, plain_what};
 ghost use Rattle.lock_checker.specs.inner.Scopes.{scope_of, IsScope};
@@ -140,6 +140,13 @@ fn into_held_index<'a>(held: &Pairs<'a>, into: &'a Option<Name>) -> bool
     }
 }
 
+fn fork_unknown(scope: &Scope, arguments: &[Expr], into: &Option<Name>) -> bool
+    requires { IsScope scope.now }
+    ensures { result ≡ (list_any (has_unknown (scope_of scope.now)) (plain_exprs arguments.now) || option_map_or (λ x. not (is_control (scope_of scope.now) x)) into.now false) }
+{
+    any_unknown(scope, arguments) || into_control_unknown(scope, into)
+}
+
 fn fork_rule<'a>(
     scope: &Scope<'_, 'a>,
     t: &Name,
@@ -150,7 +157,7 @@ fn fork_rule<'a>(
     requires { IsScope scope.now }
     ensures { result ≡ lowest (fails_at (scope_of scope.now) (plain.Fork t.now (plain_exprs arguments.now) into.now) (pairs_in held.now)) }
 {
-    let unknown = any_unknown(scope, arguments) || into_control_unknown(scope, into);
+    let unknown = fork_unknown(scope, arguments, into);
     match task_named(scope, t) {
         None => Some(CheckKind::UnknownName),
         Some(task) => {

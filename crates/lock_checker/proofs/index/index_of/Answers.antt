@@ -1,4 +1,4 @@
-use Rattle.std.proofs.Common.{◌≡◌, ◌<◌, [], ◌∷◌, ◌++◌, ◌∙◌, ap, sym, subst, take, take_all, length, get_or, rules, arith}
+use Rattle.std.proofs.Common.{◌≡◌, ◌<◌, ◌≤◌, [], ◌∷◌, ◌++◌, ◌∙◌, ap, sym, subst, take, take_all, length, get_or, rules}
 use Rattle.std.proofs.lemmas.List.{take_more}
 use Rattle.task_ast.specs.declared.tree.TaskText.{TaskText}
 use Rattle.lock_checker.specs.inner.Indexes.{Finds}
@@ -14,3 +14,10 @@ loop-task-preserved c =
     let is : c.task-item.result ≡ get_or texts c.loop-task.task-index c.task-item.result = search rules in
     let more = take_more texts c.loop-task.task-index c.task-item.result within ∙ ap (λ (t : TaskText). before ++ t ∷ []) (sym is) in
     subst (λ l. Finds c.add_task.new.self heads l) (sym more) (c.in_ok-add_task.ensures heads before c.loop-task.invariant)
+
+pub returns : goal.returns
+returns c =
+    let texts = c.args.program.now.tasks in
+    let past : length texts ≤ c.loop-task.task-index = search rules in
+    index_made c.loop-task.index c.args.program.now
+    (subst (λ l. Finds c.loop-task.index c.args.program.now.heads l) (take_all c.loop-task.task-index texts past) c.loop-task.invariant)

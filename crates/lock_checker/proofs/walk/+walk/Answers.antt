@@ -1,14 +1,16 @@
 use Rattle.std.proofs.Common.{◌≡◌, ◌∙◌, ◌++◌, [], ◌∷◌, ◌≤◌, ap, arith, drop, length, refl, subst, sym, rules}
+use Rattle.std.specs.Prelude.{not}
 use Rattle.std.proofs.Math.ListN.{drop_of_length-le}
 use Rattle.std.proofs.lemmas.List.{map-append}
+use Rattle.task_ast.specs.declared.check_kind.CheckKind.TheVariants.{BranchesDiffer}
 use Rattle.task_ast.specs.declared.tree.What.{the_lemmas}
 use Rattle.task_ast.specs.meaning.Check.{visits_in}
-use Rattle.task_ast.specs.meaning.Held.{has, held_after, held_at_end}
+use Rattle.task_ast.specs.meaning.Held.{has, held_after, held_at_end, same_pairs}
 use Rattle.task_ast.specs.View.{plain_stmt, plain_what, plain_block}
-use Rattle.task_ast.specs.meaning.Visit.{visit, first_fault}
+use Rattle.task_ast.specs.meaning.Visit.{visit, fails_if, first_fault}
 use Rattle.lock_checker.specs.inner.Scopes.{scope_of}
 use Rattle.lock_checker.specs.inner.Pairs.{pair_of, pairs_of, pairs_in, Leads}
-use Rattle.lock_checker.proofs.BlockLemmas.{told_here, found_later, ends_later, moves_same, choice_held, choice_visits}
+use Rattle.lock_checker.proofs.BlockLemmas.{told_here, found_later, ends_later, moves_same, loop_held, loop_visits, branches_held, branches_visits, choice_held, choice_visits}
 use Rattle.lock_checker.proofs.ChangeLemmas.{leads_on}
 use Rattle.lock_checker.proofs.EndLemmas.{told_early}
 use Rattle.lock_checker.specs.Accepted.{Told}
@@ -97,3 +99,39 @@ check_inside-returns-in-Err-check_aside t c =
     c.as_slice-in-When.ensures refl))
     (told_early c.in-Err-check_aside.fault (visits_in scope (plain_block a) old) (visits_in scope (plain_block c.in-When.second) old)
     (visit s.line [] ∷ []) (c.in-Err-check_aside.ensures old (λ q. refl)))
+
+pub check_inside-returns-in-While : goal.check_inside-returns-in-While
+check_inside-returns-in-While t c =
+    let scope = scope_of c.args.scope.now in
+    let s = c.args.s.now in
+    let old = pairs_in c.args.held.now in
+    let new = pairs_in c.check_aside-body.new.held in
+    let b = c.as_slice.result.now in
+    subst (λ visits. Walks c.end_loop.result old new visits (held_after (plain_stmt s) old))
+    (sym (loop_visits s c.in-While.field-0 c.in-While.body c.in-While.is scope old b c.as_slice.ensures))
+    (subst (λ held. Walks c.end_loop.result old new (visits_in scope (plain_block b) old
+    ++ visit s.line (fails_if (not (same_pairs (held_at_end (plain_block b) old) old)) BranchesDiffer) ∷ []) held)
+    (sym (loop_held s c.in-While.field-0 c.in-While.body c.in-While.is old))
+    (c.end_loop.ensures old new (visits_in scope (plain_block b) old) (held_at_end (plain_block b) old)
+    (c.check_aside-body.ensures old (λ q. refl))))
+
+pub check_inside-returns-in-Ok : goal.check_inside-returns-in-Ok
+check_inside-returns-in-Ok t c =
+    let scope = scope_of c.args.scope.now in
+    let s = c.args.s.now in
+    let old = pairs_in c.args.held.now in
+    let new = pairs_in c.check_block-second.new.held in
+    let a = c.as_slice-in-If.result.now in
+    let b = c.as_slice-in-Ok.result.now in
+    let ends_a = held_at_end (plain_block a) old in
+    let ends_b = held_at_end (plain_block b) old in
+    let first = c.in-Ok.ensures old (λ q. refl) in
+    let second = c.check_block-second.ensures old first.1 in
+    subst (λ visits. Walks c.end_branches.result old new visits (held_after (plain_stmt s) old))
+    (sym (branches_visits s c.in-If.field-0 c.in-If.first c.in-If.second c.in-If.is scope old a b c.as_slice-in-If.ensures
+    c.as_slice-in-Ok.ensures))
+    (subst (λ held. Walks c.end_branches.result old new ((visits_in scope (plain_block a) old ++ visits_in scope (plain_block b) old)
+    ++ visit s.line (fails_if (not (same_pairs ends_a ends_b)) BranchesDiffer) ∷ []) held)
+    (sym (branches_held s c.in-If.field-0 c.in-If.first c.in-If.second c.in-If.is old a c.as_slice-in-If.ensures))
+    (c.end_branches.ensures old new (visits_in scope (plain_block a) old) (visits_in scope (plain_block b) old) ends_a ends_b first.0
+    (subst (λ l. Leads old (pairs_of l) ends_a) (sym c.deref.ensures.value) first.2) second))
