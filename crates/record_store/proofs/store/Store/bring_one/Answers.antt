@@ -1,8 +1,9 @@
-use Rattle.std.proofs.Common.{◌≡◌, ◌<◌, length, map, ap, ◌∙◌, arith, set}
+use Rattle.record_store.specs.Stored.{Stored}
+use Rattle.std.proofs.Common.{◌≡◌, ◌<◌, length, map, ap, ◌∙◌, arith, set, sym}
 use Rattle.std.proofs.lemmas.List.{length-map, map-set}
 use Rattle.std.specs.Arc.{arc_value}
 use Rattle.task_ast.specs.meaning.Under.{under_lock}
-use Rattle.record_store.specs.inner.Shelves.{seen, is_away, cells_on}
+use Rattle.record_store.specs.inner.Shelves.{seen, is_away, value_on, cells_on}
 use Rattle.record_store.proofs.Replaced.{stocked_set, cells_set}
 use Rattle.record_store.proofs.store.Store.bring_one.Goals as goal
 use Rattle.record_store.proofs.store.Store.bring_one.Goals.{After-self-1}
@@ -46,3 +47,10 @@ returns-clause-rest c =
           (map-set is_away c.self.inside.shelves.items c.lock.inside.0 c.put_in.new.shelf
           ∙ ap (λ s. set (map is_away c.self.inside.shelves.items) c.lock.inside.0 (is_away s)) c.put_in.ensures) i;
     })
+
+pub returns-clause-count : goal.returns-clause-count
+returns-clause-count c =
+    let places = (arc_value c.self.inside.standing).places.items in
+    length-map places (value_on (map seen (set c.self.inside.shelves.items c.lock.inside.0 c.put_in.new.shelf)))
+    ∙ sym (length-map places (value_on (map seen c.self.inside.shelves.items)))
+    ∙ ap (λ (s : Stored). length s.cells) c.self.view_is
