@@ -10,7 +10,7 @@ ghost use Rattle.record_store.specs.declared.given.Bundle.{Bundle as BundleThere
 ghost use Rattle.task_ast.specs.SyncOps.{IsNumbered};
 ghost use Rattle.subthread.specs.Tasks.{with_bundles, under_of, task_of, Fits, IsRun};
 ghost use Rattle.subthread.specs.inner.Running.{doing_of, Holds, IsTask, AreAtHand};
-ghost use Rattle.subthread.specs.inner.Leaving.{IsGroundOf, Walked, actions_at, effect_in, EndsAs};
+ghost use Rattle.subthread.specs.inner.Leaving.{IsGroundOf, Walked, actions_at, named_footprint, effect_in, EndsAs};
 
 use crate::attempts::{Walk, attempts, given_back};
 use crate::begins::begin;
@@ -62,6 +62,49 @@ pub fn cells_of<'a>(alloc: Global, work: &'a Work, bundles: Seq<Bundle>) -> Cell
     CellsAtHand::new(alloc, under, over, bundles)
 }
 
+// Performs the synchronisation with which a task begins and walks through its body. Gives what comes next.
+fn reached(
+    alloc: Global,
+    work: &Work,
+    task: &Task,
+    ground: &Ground,
+    cursor: &mut Cursor,
+    doing: &mut Doing,
+    names: &mut Names,
+) -> Result<Next, AllocError>
+    requires is { IsGroundOf work.now (with_bundles ground.now.bundles.value task.now) ground.now }
+    requires task { IsTask ground.now }
+    requires holds { Holds ground.now doing.old }
+    requires named { AreAtHand ground.now (actions_at work.now (with_bundles ground.now.bundles.value task.now) cursor.old) }
+    requires none { names.old ≡ record { reads = []; writes = [] } }
+    ensures walked { IfOk result (λ next. Walked work.now (with_bundles ground.now.bundles.value task.now) (next, named_footprint task.now.thread task.now.begins.sync task.now.child names.new) cursor.old (doing_of doing.old) cursor.new (doing_of doing.new)) }
+    ensures holds { Holds ground.now doing.new }
+{
+    begin(alloc, &task.begins.sync, ground, task.child, cursor, doing)?;
+    run_body(alloc, ground, work.turns, cursor, doing, names)
+}
+
+// What comes next, with what the subthread reads and writes, whose actions name these cells.
+fn with_footprint(
+    alloc: Global,
+    task: &Task,
+    names: Names,
+    next: Next,
+) -> Result<(Next, Footprint), AllocError>
+    requires { IsNumbered task.now.begins.sync }
+    ensures { IfOk result (λ end. end ≡ (next, named_footprint task.now.thread task.now.begins.sync task.now.child names)) }
+{
+    let foot = footprint(alloc, &task.begins, task.thread, task.child, &names);
+    drop(names);
+    match foot {
+        Ok(foot) => Ok((next, foot)),
+        Err(halt) => {
+            drop(next);
+            Err(halt)
+        }
+    }
+}
+
 /// Walks from where a task stands to its next synchronisation; the task's bundles are with the cells at hand. Gives
 /// that, and what the subthread reads and writes.
 pub fn walk(
@@ -80,13 +123,11 @@ pub fn walk(
     ensures walked { IfOk result (λ end. Walked work.now (with_bundles ground.now.bundles.value task.now) end cursor.old (doing_of doing.old) cursor.new (doing_of doing.new)) }
     ensures holds { Holds ground.now doing.new }
 {
-    begin(alloc, &task.begins.sync, ground, task.child, cursor, doing)?;
     let mut names = Names::new(alloc);
-    let next = run_body(alloc, ground, work.turns, cursor, doing, &mut names)?;
-    match footprint(alloc, &task.begins, task.thread, task.child, &names) {
-        Ok(foot) => Ok((next, foot)),
+    match reached(alloc, work, task, ground, cursor, doing, &mut names) {
+        Ok(next) => with_footprint(alloc, task, names, next),
         Err(halt) => {
-            drop(next);
+            drop(names);
             Err(halt)
         }
     }

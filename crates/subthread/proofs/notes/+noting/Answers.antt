@@ -1,7 +1,7 @@
-use Rattle.std.proofs.Common.{sym, ap, ◌∙◌}
+use Rattle.std.proofs.Common.{arith, sym, ap, ◌∙◌}
 use Rattle.task_code.specs.Reading.{calc_of_registers, deed_action, deeds_arm}
 use Rattle.task_code.specs.View.{plain_arm, plain_calc, plain_deed}
-use Rattle.task_code.proofs.Views.{deed_When}
+use Rattle.task_code.proofs.Views.{view, deed_When}
 use Rattle.subthread.specs.inner.Running.{env_in}
 use Rattle.subthread.proofs.Beginnings.{on_ok}
 use Rattle.subthread.proofs.Noted.{both_noted}
@@ -19,3 +19,21 @@ note-returns-in_ok-note_all-in-When t c =
     c.args.names.now c.note_all.new.names c.note_all-in-When.new.names first notes a
     (sym (ap (λ d. deed_action d env) (ap plain_deed deed.is ∙ deed_When deed.field-0 deed.first deed.second)) ∙ is))
     second
+
+pub note-returns-in-SetReg : goal.note-returns-in-SetReg
+note-returns-in-SetReg t c = grind (arith, view)
+
+pub note-returns-in_ok-narrow-in-Some : goal.note-returns-in_ok-narrow-in-Some
+note-returns-in_ok-narrow-in-Some t c = grind (arith, view)
+
+pub note-returns-in-None : goal.note-returns-in-None
+note-returns-in-None t c = grind (arith, view)
+
+pub note-returns-in_ok-narrow-in-Some-cell_at : goal.note-returns-in_ok-narrow-in-Some-cell_at
+note-returns-in_ok-narrow-in-Some-cell_at t c = grind (arith, view)
+
+pub note-returns-in-None-cell_at : goal.note-returns-in-None-cell_at
+note-returns-in-None-cell_at t c = grind (arith, view)
+
+pub note-returns-in-Print : goal.note-returns-in-Print
+note-returns-in-Print t c = grind (arith, view)
