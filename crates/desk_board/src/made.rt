@@ -1,5 +1,5 @@
 // A new board.
-ghost use Rattle.std.specs.Prelude.{◌≡◌, ◌≤◌, length, map, All, IfOk, IfErr, [], vec_len, vec_capacity};
+ghost use Rattle.std.specs.Prelude.{◌≡◌, ◌+◌, ◌≤◌, length, map, replicate, All, IfOk, IfErr, [], vec_len, vec_capacity};
 ghost use Rattle.desk_board.specs.Held.{about, hand, book, gathered, IsPassOf, IsClerkOf};
 ghost use Rattle.desk_board.specs.Rule.{no_hand, first_hand, first_book};
 ghost use Rattle.desk_board.specs.declared.view.Slot.TheVariants.{Todo};
@@ -11,6 +11,20 @@ use crate::view::{Hand, Slot};
 use gp_base::{Job, Seq};
 use std::alloc::{AllocError, Global};
 use std::snapshot::Snapshot;
+
+/// The words of a table of so many slots, each of which is 0, and room for the slots.
+pub(crate) fn room_for<J: Drop, R: Drop>(
+    alloc: Global,
+    count: usize,
+) -> Result<(Vec<u64>, Vec<Slot<J, R>>), AllocError>
+    requires few { count ≤ 65536 }
+    ensures words { IfOk result (λ room. room.0.items ≡ replicate (count + 1) 0) }
+    ensures slots { IfOk result (λ room. (room.1.items ≡ []) × (count ≤ vec_capacity room.1)) }
+{
+    let words = Vec::from_elem(alloc, 0u64, count + 1)?;
+    let slots = Vec::with_capacity(alloc, count)?;
+    Ok((words, slots))
+}
 
 /// Moves the jobs into slots. There is room for them.
 pub fn lay_out<J: Drop, R: Drop>(jobs: &mut Vec<J>, slots: &mut Vec<Slot<J, R>>)

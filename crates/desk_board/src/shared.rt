@@ -1,14 +1,14 @@
 // What boards do, whatever hands their passes have and whatever rule they keep: a table is laid, a run is put back, a
 // run is taken.
-ghost use Rattle.std.specs.Prelude.{◌≡◌, ◌+◌, ◌<◌, ◌≤◌, [], ◌∷◌, length, All, IfOk, IfErr};
+ghost use Rattle.std.specs.Prelude.{◌≡◌, ◌+◌, ◌<◌, ◌≤◌, [], ◌∷◌, length, map, replicate, All, IfOk, IfErr};
 ghost use mathlib.Core.Option.{none};
 ghost use Rattle.atomic_table.specs.Table.{Allows, Joins, step};
 ghost use Rattle.desk_board.specs.Rule.{about_of};
 ghost use Rattle.desk_board.specs.Told.{IsRunAt, book_took};
 ghost use Rattle.desk_board.specs.Views.{IsOf, Opens, took, given_up, pass_part, clerk_part};
-ghost use Rattle.desk_board.specs.declared.view.Slot.TheVariants.{Empty, Done};
+ghost use Rattle.desk_board.specs.declared.view.Slot.TheVariants.{Empty, Todo, Done};
 
-use crate::made::{lay_out, take_back};
+use crate::made::{lay_out, room_for, take_back};
 use crate::plays::{Office, Return, Take};
 use crate::rule::{BoardSeat, BoardShared, BoardTable};
 use crate::view::{BoardSetup, PassHand, SeatView, Slot};
@@ -39,24 +39,49 @@ pub fn lay_table<
     ensures refused { IfErr result (λ refusal. refusal.1 ≡ jobs) }
 {
     let mut jobs = jobs.into_vec();
+    let Ok((words, mut slots)) = room_for(alloc, jobs.len()) else {
+        return Err((AllocError, Seq::from_vec(jobs)));
+    };
     let plan = BoardSetup {
         jobs: Snapshot::of(&jobs),
         with: Snapshot::of(with),
     };
-    let count = jobs.len();
-    let Ok(words) = Vec::from_elem(alloc, 0u64, count + 1) else {
-        return Err((AllocError, Seq::from_vec(jobs)));
-    };
-    let Ok(mut slots) = Vec::with_capacity(alloc, count) else {
-        return Err((AllocError, Seq::from_vec(jobs)));
-    };
     lay_out(&mut jobs, &mut slots);
-    let (table, mut seat) = match Table::new(alloc, words.as_slice(), slots, &plan) {
-        Ok(made) => made,
+    match set_table::<J, H, P>(alloc, words.as_slice(), slots, &plan) {
+        Ok(made) => Ok(made),
         Err(Refused { slots }) => {
             take_back(slots, &mut jobs, &plan.jobs);
-            return Err((AllocError, Seq::from_vec(jobs)));
+            Err((AllocError, Seq::from_vec(jobs)))
         }
+    }
+}
+
+// The table over these words and slots, with the seats of the first pass and of the clerk. Out of memory, the slots
+// come back as they were.
+fn set_table<
+    J: Job,
+    H: PassHand,
+    P: TableRule<Slot<J, J::Run>, SeatView<J, J::With, H>, BoardSetup<J, J::With>>,
+>(
+    alloc: Global,
+    words: &[u64],
+    slots: Vec<Slot<J, J::Run>>,
+    plan: &BoardSetup<J, J::With>,
+) -> Result<
+    (BoardTable<J, H, P>, BoardSeat<J, H>, BoardSeat<J, H>),
+    Refused<Slot<J, J::Run>, Global>,
+>
+    requires few { length plan.now.jobs.value.items ≤ 65536 }
+    requires fits { All (J.fits plan.now.with.value) plan.now.jobs.value.items }
+    requires opens { Opens J.fits P.holds P.first H.none }
+    requires words { words.now ≡ replicate (length plan.now.jobs.value.items + 1) 0 }
+    requires slots { slots.items ≡ map Todo plan.now.jobs.value.items }
+    ensures made { IfOk result (λ made. (made.0.shared.key ≡ plan.now) × (made.0.shared.table_id.words ≡ length plan.now.jobs.value.items + 1) × (made.0.shared.table_id.slots ≡ length plan.now.jobs.value.items) × (made.1.table_id ≡ made.0.shared.table_id) × (made.1.me ≡ (pass_part (P.first plan.now), [])) × (made.2.table_id ≡ made.0.shared.table_id) × (made.2.me ≡ (clerk_part H.none (P.first plan.now), []))) }
+    ensures refused { IfErr result (λ refusal. refusal.slots.items ≡ slots.items) }
+{
+    let (table, mut seat) = match Table::new(alloc, words, slots, plan) {
+        Ok(made) => made,
+        Err(refusal) => return Err(refusal),
     };
     let office = table.shared.split_seat::<Office>(&mut seat);
     Ok((table, seat, office))
