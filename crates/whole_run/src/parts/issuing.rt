@@ -156,8 +156,13 @@ fn make_ready(alloc: Global, plan: &Plan, parts: &mut Parts) -> Result<Option<Pr
     reserve_room(parts)?;
     let prepared = prepare(alloc, plan, parts)?;
     let forks = forks(&prepared);
-    reserve_slot(alloc, &mut parts.store, parts.places.len(), forks)?;
-    Ok(prepared)
+    match reserve_slot(alloc, &mut parts.store, parts.places.len(), forks) {
+        Ok(()) => Ok(prepared),
+        Err(error) => {
+            drop(prepared);
+            Err(error)
+        }
+    }
 }
 
 /// Adds the entry of the subthread that was issued, its child's place and the event.

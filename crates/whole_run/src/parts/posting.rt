@@ -40,23 +40,24 @@ fn bare_in(
     requires numbered { IsNumbered entry.now.begins.sync }
     ensures { IfOk result (λ task. task ≡ bare_in faults.now.list store.now pos entry.now) }
 {
-    let joined = entry.begins.sync.joined_by();
-    let (regs, joined) = store.regs_of(alloc, entry.thread, joined)?;
-    let bundles = Seq::new(alloc);
+    let held = entry.held.copied(alloc)?;
+    let ctl = entry.ctl.copied(alloc)?;
+    let (regs, joined) = store.regs_of(alloc, entry.thread, entry.begins.sync.joined_by())?;
+    let begins = entry.begins.copied(alloc)?;
     Ok(Task {
         pos,
         thread: entry.thread,
         attempt: entry.attempt,
-        begins: entry.begins.copied(alloc)?,
+        begins,
         at: entry.at,
-        ctl: entry.ctl.copied(alloc)?,
+        ctl,
         child: entry.child,
         given: Given {
             regs,
             joined,
-            bundles,
+            bundles: Seq::new(alloc),
         },
-        held: entry.held.copied(alloc)?,
+        held,
         mask: faults.mask_of(pos, entry.attempt),
     })
 }
@@ -174,7 +175,13 @@ pub fn post<R: Threads + Sync, C: Crew>(
     open_block(alloc, plan, parts, position)?;
     parts.events.reserve(1)?;
     let task = bare_at(alloc, &plan.faults, &parts.store, &parts.rol, position)?;
-    let room = room_for(alloc, task.held.len())?;
+    let room = match room_for(alloc, task.held.len()) {
+        Ok(room) => room,
+        Err(error) => {
+            drop(task);
+            return Err(error);
+        }
+    };
     let attempt = task.attempt;
     send(rt, crew, &mut parts.store, task, room)?;
     parts.rol.set_out(position);

@@ -160,7 +160,9 @@ pub fn retire<O: Sink>(
     parts.events.reserve(1)?;
     write_oldest(alloc, plan, parts, out)?;
     let entry = parts.rol.retire_front();
-    drop_before(&mut parts.backup, entry.pos.0 + 1);
-    parts.events.push(Event::Retire(entry.pos));
-    Ok(Some(entry.pos))
+    let position = entry.pos;
+    drop(entry);
+    drop_before(&mut parts.backup, position.0 + 1);
+    parts.events.push(Event::Retire(position));
+    Ok(Some(position))
 }

@@ -20,7 +20,7 @@ use crate::parts::backing::advance;
 use crate::parts::{Backup, Parts, Place, Plan};
 use crew::Notes;
 use gp_base::{Event, Footprint, Pos, RecNo, Seq, ThreadNo};
-use record_store::{Bundle, Effect, Given, Store};
+use record_store::{Bundle, Effect, Store};
 use reorder_list::Rol;
 use std::alloc::AllocError;
 use subthread::{Done, Task, Work};
@@ -108,6 +108,14 @@ fn apply_where(
     }
 }
 
+// The cells of its locks that a task was given.
+fn bundles_of(task: Task) -> Seq<Bundle>
+    ensures { result ≡ task.given.bundles }
+{
+    let Task { given, .. } = task;
+    given.bundles
+}
+
 // Takes the run of a task that is out, and applies it where its attempt is the present one, which is the answer: the
 // cells of its locks then come home. Another attempt holds no lock. What its thread does next is learnt in any case,
 // where it is awaited, and so is what the subthread touches, where it has not retired.
@@ -131,14 +139,10 @@ fn take(plan: &Plan, parts: &mut Parts, done: Done) -> bool
         ctl,
         foot,
     } = done;
-    let Task {
-        pos,
-        thread,
-        attempt,
-        given,
-        ..
-    } = task;
-    let Given { bundles, .. } = given;
+    let pos = task.pos;
+    let thread = task.thread;
+    let attempt = task.attempt;
+    let bundles = bundles_of(task);
     let fresh = is_present(&parts.rol, pos, attempt);
     let place = Place { at, ctl };
     learn(&mut parts.ring, &mut parts.places, thread, pos, next, place);
@@ -195,6 +199,11 @@ pub fn accept<N: Notes>(
     ensures noted { IfOk result (λ applies. NotesTaken applies (N.tells notes.old) (N.tells notes.new) done.task.pos (effect_of (batch_in plan.now).work done)) }
     ensures unnoted { OnErr result (NotesNothing (N.tells notes.old) (N.tells notes.new)) }
 {
-    note_where(&parts.rol, plan.work, &done, notes)?;
-    Ok(take(plan, parts, done))
+    match note_where(&parts.rol, plan.work, &done, notes) {
+        Ok(()) => Ok(take(plan, parts, done)),
+        Err(error) => {
+            drop(done);
+            Err(error)
+        }
+    }
 }

@@ -9,12 +9,12 @@ prepare-requires-clause-few c =
     (kept_same (batch_in c.args.plan.now) c.args.parts.now c.reserve_room.new.parts c.reserve_room.ensures.same
     (inl c.reserve_room.ensures.store) c.requires.kept)
 
-pub returns-in_err-reserve_slot-clause-kept : goal.returns-in_err-reserve_slot-clause-kept
-returns-in_err-reserve_slot-clause-kept c =
+pub returns-in-Err-clause-kept : goal.returns-in-Err-clause-kept
+returns-in-Err-clause-kept c =
     kept_ready (batch_in c.args.plan.now) c.args.parts.now c.reserve_room.new.parts c.reserve_slot.new.store c.reserve_room.ensures.same
     c.reserve_room.ensures.store c.reserve_slot.ensures.grown c.requires.kept
 
-pub returns-clause-kept : goal.returns-clause-kept
-returns-clause-kept c =
+pub returns-in-Ok-clause-kept : goal.returns-in-Ok-clause-kept
+returns-in-Ok-clause-kept c =
     kept_ready (batch_in c.args.plan.now) c.args.parts.now c.reserve_room.new.parts c.reserve_slot.new.store c.reserve_room.ensures.same
     c.reserve_room.ensures.store c.reserve_slot.ensures.grown c.requires.kept

@@ -1,4 +1,4 @@
-use Rattle.std.proofs.Common.{◌+◌, refl, sym, ap, subst}
+use Rattle.std.proofs.Common.{◌+◌, refl, sym, subst}
 use Rattle.std.specs.Io.KnownBytes.{Appends}
 use Rattle.gp_base.specs.meaning.Sinks.{AppendsPrefix}
 use Rattle.restart_log.specs.meaning.Lines.{printed}
@@ -38,7 +38,7 @@ returns-clause-kept g c =
     kept-retired (batch_in c.args.plan.now) c.args.parts.now c.requires.kept is c.retire_front-entry.result
     c.retire_front-entry.new.self.entries c.retire_front-entry.ensures.entries
     c.drop_before.new.backup
-    (subst (λ p. DropsBefore (p + 1) c.args.parts.now.backup c.drop_before.new.backup) (ap (λ e. e.pos) c.entry.view_is)
+    (subst (λ p. DropsBefore (p + 1) c.args.parts.now.backup c.drop_before.new.backup) c.position.view_is
     c.drop_before.ensures)
     c.push.new.self.items
     (made (batch_in c.args.plan.now) c.args.parts.now c.requires.kept is c.retire_front-entry.result c.retire_front-entry.new.self.entries

@@ -9,12 +9,13 @@ use Rattle.whole_run.proofs.parts.taking.take.Goals as goal
 
 pub apply_where-requires-clause-comes : goal.apply_where-requires-clause-comes
 apply_where-requires-clause-comes c =
-    rw c.is_present-fresh.ensures
+    rw (c.is_present-fresh.ensures, c.bundles_of-bundles.ensures)
     (comes (batch_in c.args.plan.now) c.args.parts.now c.requires.kept c.args.done c.requires.task c.requires.run)
 
 pub apply_where-requires-clause-fits : goal.apply_where-requires-clause-fits
 apply_where-requires-clause-fits c =
-    λ e. fits (batch_in c.args.plan.now) c.args.parts.now c.requires.kept c.args.done c.requires.task c.requires.run
+    rw c.bundles_of-bundles.ensures
+    (λ e. fits (batch_in c.args.plan.now) c.args.parts.now c.requires.kept c.args.done c.requires.task c.requires.run)
 
 pub apply_where-requires-clause-out : goal.apply_where-requires-clause-out
 apply_where-requires-clause-out c =
@@ -33,7 +34,8 @@ returns-clause-kept c =
     (record { at = c.args.done.at; ctl = c.args.done.ctl }) refl refl refl c.is_present-fresh.result c.is_present-fresh.ensures
     c.learn.new.ring.table c.learn.new.places c.learn_foot.new.rol.entries c.apply_where.new.rol.entries
     c.apply_where.new.store c.apply_where.new.backup c.push.new.self.items c.learn.ensures.table
-    (rw c.deref_mut.ensures.value at c.learn.ensures.places) c.learn_foot.ensures c.apply_where.ensures c.push.ensures.items)
+    (rw c.deref_mut.ensures.value at c.learn.ensures.places) c.learn_foot.ensures
+    (rw c.bundles_of-bundles.ensures at c.apply_where.ensures) c.push.ensures.items)
 
 pub returns-clause-did : goal.returns-clause-did
 returns-clause-did c =
