@@ -132,7 +132,7 @@ fn known_forking(
 }
 
 // A fork of no task, which ends at an index fault.
-#[tactic(auto, using(crate::proofs::Views::view))]
+#[tactic(auto, using(crate::proofs::Views::calc_NoValue))]
 fn no_forking(alloc: Global, into: Option<usize>) -> Result<Forking, AllocError>
     ensures { IfOk result (λ f. plain_forking f ≡ record { task = 0; registers = 0; controls = no_value ∷ []; gifts = []; into = into }) }
 {
