@@ -227,6 +227,20 @@ pub records_bad : (told : Option Files) (file : Name) (size : ℕ) (inputs : Inp
 records_bad None file size inputs refusal is = tt
 records_bad (Some files) file size inputs refusal is = λ names. record_bad names file size (bytes_of files file) inputs refusal is
 
+pub records_ok : (told : Option Files) (file : Name) (size : ℕ) (inputs after : Inputs) (cells put : List ℤ) → put ≡ cells
+    → after.records ≡ inputs.records ++ put → after.feeds ≡ inputs.feeds
+    → IfSome told (λ files. IsSomeAnd (bytes_of files file)
+    (λ text. (length text ≤ MOST_FILE_BYTES) × (records_by size (csv_rows text) ≡ Ok cells)))
+    → IfSome told (λ files. (names : List Name)
+    → by_file names file (bytes_of files file) (records_by size) (more_cells inputs) ≡ Go (names ++ file ∷ []) after)
+records_ok None file size inputs after cells put same records feeds is = tt
+records_ok (Some files) file size inputs after cells put same records feeds is =
+    let all = records ∙ ap (λ l. inputs.records ++ l) same in
+    let grown : with_cells inputs cells ≡ after = ap₂ inputs_of (sym all) (sym feeds) in
+    λ names.
+    record_ok names file size (bytes_of files file) inputs cells is
+    ∙ ap (λ i. Go (names ++ file ∷ []) i) grown
+
 pub feeds_bad : (told : Option Files) (file : Name) (fields room : ℕ) (inputs : Inputs) (refusal : Refusal) → room ≡ room_after inputs.feeds
     → IfSome told (λ files. AnswersRows {A = Feed} (λ feed. feed.cells) file (feed_by fields room) (bytes_of files file) (Err refusal))
     → IfSome told (λ files. (names : List Name)
@@ -351,6 +365,24 @@ loads_all None heads n after past is = tt
 loads_all (Some files) heads n after past is =
     sym is ∙ ap (λ l. load files (file_names (take n heads)) after l) (drop_all n heads past)
     ∙ ap (λ l. Go (file_names l) after) (take_all n heads past)
+
+-- the same, as they are given away
+pub loads_given : (told : Option Files) (heads : List Head) (n : ℕ) (before after : Inputs) → length heads ≤ n
+    → after.records ≡ before.records → after.feeds ≡ before.feeds
+    → IfSome told (λ files. load files (file_names (take n heads)) before (drop n heads) ≡ load files [] no_inputs heads)
+    → IfSome told (λ files. load files [] no_inputs heads ≡ Go (file_names heads) after)
+loads_given told heads n before after past records feeds is =
+    let same : before ≡ after = ap₂ inputs_of (sym records) (sym feeds) in
+    subst (λ i. IfSome told (λ files. load files [] no_inputs heads ≡ Go (file_names heads) i)) same
+    (loads_all told heads n before past is)
+
+-- before the first head there are no inputs
+pub loads_none : (told : Option Files) (heads : List Head) (inputs : Inputs) → inputs.records ≡ [] → inputs.feeds ≡ []
+    → IfSome told (λ files. load files [] inputs heads ≡ load files [] no_inputs heads)
+loads_none None heads inputs records feeds = tt
+loads_none (Some files) heads inputs records feeds =
+    let same : inputs ≡ no_inputs = ap₂ inputs_of records feeds in
+    ap (λ i. load files [] i heads) same
 
 -- a head that is left can be read
 pub readable_at : (heads : List Head) (i : ℕ) (head : Head) → i < length heads → head ≡ get_or heads i head → AreReadable (drop i heads)

@@ -1,14 +1,16 @@
 -- The inputs that are read have as many cells and feeds as the heads declare.
-use Rattle.std.proofs.Common.{◌≡◌, ◌∙◌, ℕ, ◌+◌, ◌<◌, ◌≤◌, zero, suc, ℤ, pos, List, [], ◌∷◌, ◌++◌, Ok, Err, Option, None, Some, length, take, get_or, refl, sym, ap, subst, arith, add-one, unwrap_or}
+use Rattle.std.proofs.Common.{Result, OnOk, append-nil, map, ◌≡◌, ◌∙◌, ℕ, ◌+◌, ◌<◌, ◌≤◌, zero, suc, ℤ, pos, List, [], ◌∷◌, ◌++◌, Ok, Err, Option, None, Some, length, take, get_or, refl, sym, ap, subst, arith, add-one, unwrap_or}
 use Rattle.std.proofs.lemmas.List.{length-append, take_all}
 use Rattle.std.specs.Option.{option_map_or}
 use Rattle.gp_base.specs.declared.feed.Inputs.{Inputs}
 use Rattle.task_ast.specs.declared.tree.Head.{Head}
 use Rattle.task_ast.specs.declared.tree.Head.TheVariants.{LockHead, BarrierHead, RecHead, FeedHead}
 use Rattle.task_ast.specs.meaning.Names.{natural, records_of, cells_in}
-use Rattle.task_ast.specs.Inputs.{fields_of}
+use Rattle.task_ast.specs.meaning.Tree.{Name}
+use Rattle.task_ast.specs.Inputs.{fields_of, fields_in}
 use Rattle.batch_files.specs.meaning.Rows.{Broken, Row, csv_rows, first_broken}
 use Rattle.batch_files.specs.meaning.Records.{cells_below, record_rule, records_by, indexed_value}
+use Rattle.call_cases.specs.declared.reading.Refusal.{Refusal}
 use Rattle.call_cases.specs.inner.Loading.{Counts, Grows}
 
 below_length : (size n : ℕ) (rows : List Row) → length (cells_below size n rows) ≡ n
@@ -68,3 +70,26 @@ counts_more heads i head before after below is counts grows =
 
 pub counts_all : (heads : List Head) (n : ℕ) (inputs : Inputs) → length heads ≤ n → Counts (take n heads) inputs → Counts heads inputs
 counts_all heads n inputs past counts = subst (λ l. Counts l inputs) (take_all n heads past) counts
+
+-- what a record and what a feed grow the inputs by
+pub record_grows : {T : Type 0} (head : Head) (name : Name) (size : ℤ) (by : Name) (from : Option Name) (line n : ℕ) (before after : Inputs)
+    (result : Result T Refusal)
+    → head ≡ RecHead name size by from line → n ≡ natural size
+    → OnOk result (length after.records ≡ length before.records + n) → after.feeds ≡ before.feeds
+    → OnOk result (Grows head before after)
+record_grows head name size by from line n before after (Ok done) is same records feeds =
+    let fields : map fields_in after.feeds ≡ map fields_in before.feeds ++ [] =
+    ap (map fields_in) feeds ∙ sym (append-nil (map fields_in before.feeds)) in
+    subst (λ h. Grows h before after) (sym is) (record { records = omega (arith, records, same); feeds = fields })
+record_grows head name size by from line n before after (Err refusal) is same records feeds = tt
+
+pub feed_grows : {T : Type 0} (head : Head) (name : Name) (fields : ℤ) (from : Name) (line n : ℕ) (before after : Inputs)
+    (result : Result T Refusal)
+    → head ≡ FeedHead name fields from line → n ≡ natural fields
+    → OnOk result (map fields_in after.feeds ≡ map fields_in before.feeds ++ n ∷ []) → after.records ≡ before.records
+    → OnOk result (Grows head before after)
+feed_grows head name fields from line n before after (Ok done) is same feeds records =
+    let cells : length after.records ≡ length before.records = ap length records in
+    let grown = feeds ∙ ap (λ k. map fields_in before.feeds ++ k ∷ []) same in
+    subst (λ h. Grows h before after) (sym is) (record { records = omega (arith, cells); feeds = grown })
+feed_grows head name fields from line n before after (Err refusal) is same feeds records = tt
