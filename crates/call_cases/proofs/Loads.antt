@@ -384,6 +384,15 @@ loads_none (Some files) heads inputs records feeds =
     let same : inputs ≡ no_inputs = ap₂ inputs_of records feeds in
     ap (λ i. load files [] i heads) same
 
+-- what the rows of a file that was read mean
+pub rows_ok : {A T : Type 0} (told : Option Files) (see : A → T) (file : Name) (text : List ℕ) (meant : List Row → Result T Broken) (value : A)
+    → IfSome told (λ files. (bytes_of files file ≡ Some text) × (length text ≤ MOST_FILE_BYTES))
+    → meant (csv_rows text) ≡ Ok (see value)
+    → IfSome told (λ files. AnswersRows see file meant (bytes_of files file) (Ok value))
+rows_ok None see file text meant value is means = tt
+rows_ok (Some files) see file text meant value is means =
+    subst (λ bytes. AnswersRows see file meant bytes (Ok value)) (sym is.0) (is.1, means)
+
 -- a head that is left can be read
 pub readable_at : (heads : List Head) (i : ℕ) (head : Head) → i < length heads → head ≡ get_or heads i head → AreReadable (drop i heads)
     → IsReadable head × AreReadable (drop (i + 1) heads)
