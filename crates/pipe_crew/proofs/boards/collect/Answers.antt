@@ -21,3 +21,12 @@ loop-desk-preserved c =
       tasks = rw (pushed, map-append, was.tasks, run.2.0) (sym (take-more (about c.args.board.now).jobs c.loop-desk.desk run.0 run.1));
       runs = rw pushed (All-push (IsRun (about c.args.board.now).with) c.loop-desk.runs.items c.in_ok-done.done was.runs run.2.1);
     }
+
+pub run_at-requires-clause-of : goal.run_at-requires-clause-of
+run_at-requires-clause-of c = c.loop-desk.invariant.of
+
+pub run_at-requires-clause-whole : goal.run_at-requires-clause-whole
+run_at-requires-clause-whole c = c.loop-desk.invariant.whole
+
+pub run_at-requires-clause-first : goal.run_at-requires-clause-first
+run_at-requires-clause-first c = c.loop-desk.invariant.taken

@@ -16,3 +16,18 @@ returns-then-is_used_up-clause-fly g c =
       behind_fly = rw c.pop_front.ensures.rest (All-drop (IsFlight w most) 1 behind all);
       none = λ kept is. rw c.pop_front.ensures.rest (none_left behind (length behind) c.pop_front.result refl (search rules) is);
     }
+
+pub returns-then-is_used_up-clause-inbox : goal.returns-then-is_used_up-clause-inbox
+returns-then-is_used_up-clause-inbox g c = refl
+
+pub returns-then-is_used_up-clause-threads : goal.returns-then-is_used_up-clause-threads
+returns-then-is_used_up-clause-threads g c = refl
+
+pub returns-clause-inbox : goal.returns-clause-inbox
+returns-clause-inbox g c = refl
+
+pub returns-clause-threads : goal.returns-clause-threads
+returns-clause-threads g c = refl
+
+pub returns-clause-out : goal.returns-clause-out
+returns-clause-out g c = refl
