@@ -1,4 +1,4 @@
-use Rattle.std.proofs.Common.{◌≡◌, ◌+◌, ◌++◌, is_ok, ap, ◌∙◌}
+use Rattle.std.proofs.Common.{◌≡◌, ◌+◌, ◌++◌, is_ok, refl, ap, ◌∙◌}
 use Rattle.std.specs.List.{flat_map}
 use Rattle.std.proofs.lemmas.Result.{on_ok_weaker, on_err_weaker}
 use Rattle.crew.specs.State.{CrewState}
@@ -39,3 +39,23 @@ returns-clause-open g c =
 
 pub returns-clause-fails : goal.returns-clause-fails
 returns-clause-fails g c = on_err_weaker c.noted.result (λ is. ap (λ s. s.failed) is) c.noted.ensures.err
+
+pub returns-then-helpers-eq0-clause-fly : goal.returns-then-helpers-eq0-clause-fly
+returns-then-helpers-eq0-clause-fly g c = c.requires.fly
+
+pub returns-then-helpers-eq0-clause-posts : goal.returns-then-helpers-eq0-clause-posts
+returns-then-helpers-eq0-clause-posts g c = (refl, refl)
+
+pub returns-in_err-flight-clause-fly : goal.returns-in_err-flight-clause-fly
+returns-in_err-flight-clause-fly g c =
+    let failed = c.in_err-flight.ensures in
+    rw (failed.boards.1, failed.posts.0, failed.threads) c.requires.fly
+
+pub returns-in_err-flight-clause-posts : goal.returns-in_err-flight-clause-posts
+returns-in_err-flight-clause-posts g c = c.in_err-flight.ensures.posts
+
+pub returns-clause-first : goal.returns-clause-first
+returns-clause-first g c = c.in_ok-flight.ensures.boards.0
+
+pub returns-clause-threads : goal.returns-clause-threads
+returns-clause-threads g c = c.in_ok-flight.ensures.threads
