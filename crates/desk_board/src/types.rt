@@ -8,12 +8,17 @@ use crate::view::Slot;
 use gp_base::Job;
 
 /// A board of jobs. All calls go through a shared reference, and none of them waits.
-#[derive(Drop)]
 pub struct Board<J: Job> {
     pub(crate) table: JobTable<J>,
     pub(crate) count: u32,
     ghost counted: { count ≡ length table.shared.key.jobs.value.items },
     ghost sized: { (table.shared.table_id.words ≡ count + 1) × (table.shared.table_id.slots ≡ count) },
+}
+
+impl<J: Job> Drop for Board<J> {
+    fn drop(self) {
+        let Self { table: _, count: _ } = self;
+    }
 }
 
 /// The right to draw desks of one board, which can be split among threads. Who lets a pass go can never gather.

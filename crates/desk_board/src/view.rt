@@ -86,8 +86,13 @@ impl PassHand for Hand {
 }
 
 /// What the rule is told once, when the table is made.
-#[derive(Drop)]
 pub struct BoardSetup<J, W> {
     pub jobs: Snapshot<Vec<J>>,
     pub with: Snapshot<W>,
+}
+
+impl<J, W> Drop for BoardSetup<J, W> {
+    fn drop(self) {
+        let Self { jobs: _, with: _ } = self;
+    }
 }
