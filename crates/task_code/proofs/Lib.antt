@@ -9,6 +9,7 @@ pub mod Patches
 pub mod Rows
 pub mod Standing
 pub mod StartValues
+pub mod StatementCode
 pub mod Stopping
 pub mod TableLemmas
 pub mod TaskLists
