@@ -1,6 +1,6 @@
-use Rattle.std.proofs.Common.{rules, sym}
-use Rattle.std.proofs.lemmas.List.{map-append}
-use Rattle.std.proofs.lemmas.List.Elements.{All-push}
+use Rattle.std.proofs.Common.{◌<◌, rules, refl, sym, ◌∙◌}
+use Rattle.std.proofs.lemmas.List.{map-append, take_all}
+use Rattle.std.proofs.lemmas.List.Elements.{All-nil, All-push}
 use Rattle.desk_board.specs.Held.{about}
 use Rattle.subthread.specs.Tasks.{IsRun}
 use Rattle.pipe_crew.proofs.Taken.{take-more}
@@ -30,3 +30,27 @@ run_at-requires-clause-whole c = c.loop-desk.invariant.whole
 
 pub run_at-requires-clause-first : goal.run_at-requires-clause-first
 run_at-requires-clause-first c = c.loop-desk.invariant.taken
+
+pub run_at-requires-clause-desk : goal.run_at-requires-clause-desk
+run_at-requires-clause-desk c = rw c.count-desk-end.ensures at c.loop-desk-test.true
+
+pub loop-desk-init : goal.loop-desk-init
+loop-desk-init c =
+    let items = c.in_ok-runs.ensures.items in
+    record {
+      of = c.requires.of;
+      whole = c.requires.whole;
+      taken = rw c.requires.first (All-nil (λ d. d < 0));
+      count = c.in_ok-runs.ensures.len;
+      room = search rules;
+      tasks = rw items refl;
+      runs = rw items (All-nil (IsRun (about c.args.board.now).with));
+    }
+
+pub returns : goal.returns
+returns c =
+    let was = c.loop-desk.invariant in
+    record {
+      tasks = was.tasks ∙ take_all c.loop-desk.desk (about c.args.board.now).jobs (rw c.count-desk-end.ensures at c.loop-desk-test.false);
+      runs = was.runs;
+    }
