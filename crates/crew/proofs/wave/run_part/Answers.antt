@@ -1,14 +1,9 @@
-use Rattle.std.proofs.Common.{◌≡◌, List, [], ◌∷◌, ◌++◌, map, length, arith, refl, ap, sym, ◌∙◌}
-use Rattle.std.proofs.lemmas.List.{append-nil}
+use Rattle.std.proofs.Common.{◌++◌, map, refl, ap, sym, ◌∙◌}
+use Rattle.std.proofs.lemmas.List.{append-nil, nil_from_length}
 use Rattle.std.proofs.lemmas.List.Elements.{All-nil, All-head, All-push, All-tail}
 use Rattle.subthread.specs.Tasks.{Fits, IsRun, task_of}
 use Rattle.crew.proofs.Parts.{one_more}
 use Rattle.crew.proofs.wave.run_part.Goals as goal
-
--- a list without items is the empty one
-nothing_left : {X : Type 0} (xs : List X) → length xs ≡ 0 → xs ≡ []
-nothing_left [] none = refl
-nothing_left (x ∷ xs) none = absurd (omega arith)
 
 pub loop-task-preserved : goal.loop-task-preserved
 loop-task-preserved g c =
@@ -44,8 +39,7 @@ pub returns : goal.returns
 returns g c =
     let w = c.args.work.now in
     let runs = c.loop-task.runs.items in
-    let none : c.loop-task.task-iterator.rest.items ≡ [] =
-    nothing_left c.loop-task.task-iterator.rest.items (sym c.loop-task.task-iterator.rest.ok.0 ∙ c.in-None.ensures.steps.0) in
+    let none = nil_from_length c.loop-task.task-iterator.rest.items (sym c.loop-task.task-iterator.rest.ok.0 ∙ c.in-None.ensures.steps.0) in
     rw c.from_vec.ensures (record {
       tasks = sym (append-nil (map (task_of w) runs)) ∙ (ap (λ r. map (task_of w) runs ++ r) (sym none) ∙ c.loop-task.invariant.tasks);
       runs = c.loop-task.invariant.runs;
