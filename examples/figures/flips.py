@@ -1,8 +1,9 @@
 #!/usr/bin/env python3
 """flips.py [--count N] [--seed N] [--memory] [--folder FOLDER] PROGRAM WORD ..: what becomes of runs in which one bit turns.
 
-Starts the program with these words again and again. Each time it is stopped once, at a random moment, one random bit of a general register of one of
-its running threads is turned (with --memory: of a word of its heap), and it goes on. Prints a row that says how many runs ended in which way:
+Starts the program with these words again and again. Each time it is stopped once, at a random moment, one random bit of a register of one of its running
+threads is turned: of a general register, the stack pointer, the program counter or the flags (with --memory: of a word of its heap, also of one that is 0),
+and it goes on. Prints a row that says how many runs ended in which way:
 
     same    the right bytes, status 0, and nothing told
     put     the right bytes, status 0, and standard error tells of walks that differed: a difference was found and put right
@@ -26,9 +27,10 @@ import time
 
 ATTACH, DETACH, GETREGS, SETREGS = 16, 17, 12, 13
 ALL_THREADS = 0x40000000
-# the place of each register in what ptrace gives, and those that are turned: all but the stack pointer and the program counter
+# the place of each register in what ptrace gives, those that are turned, and of the flags the bits that arithmetic and jumps go by
 PLACES = "r15 r14 r13 r12 rbp rbx r11 r10 r9 r8 rax rcx rdx rsi rdi orig_rax rip cs eflags rsp ss fs_base gs_base ds es fs gs".split()
-TURNED = PLACES[:15]
+TURNED = [*PLACES[:15], "rsp", "rip", "eflags"]
+FLAGS = (0, 2, 4, 6, 7, 10, 11)
 ENDS = ("same", "put", "told", "crash", "hang", "wrong")
 
 libc = ctypes.CDLL(None, use_errno=True)
@@ -41,24 +43,22 @@ def turn_register(thread, draws):
     registers = (ctypes.c_ulonglong * len(PLACES))()
     if libc.ptrace(GETREGS, thread, None, ctypes.addressof(registers)) != 0:
         return False
-    registers[PLACES.index(draws.choice(TURNED))] ^= 1 << draws.randrange(64)
+    name = draws.choice(TURNED)
+    registers[PLACES.index(name)] ^= 1 << (draws.choice(FLAGS) if name == "eflags" else draws.randrange(64))
     return libc.ptrace(SETREGS, thread, None, ctypes.addressof(registers)) == 0
 
 
 def turn_memory(thread, draws):
-    """Turns a bit of a word that is not 0 in the heap of a thread's process, and answers whether it did."""
+    """Turns a bit of a word in the heap of a thread's process, and answers whether it did."""
     maps = pathlib.Path(f"/proc/{thread}/maps").read_text().split("\n")
     heap = [line.split()[0].split("-") for line in maps if line.endswith("[heap]") or line.split()[1:2] == ["rw-p"] and len(line.split()) == 5]
+    low, high = (int(bound, 16) for bound in draws.choice(heap))
     with open(f"/proc/{thread}/mem", "r+b", buffering=0) as memory:
-        for _ in range(1000):
-            low, high = (int(bound, 16) for bound in draws.choice(heap))
-            memory.seek(low + draws.randrange((high - low) // 8) * 8)
-            word = int.from_bytes(memory.read(8), "little")
-            if word:
-                memory.seek(-8, os.SEEK_CUR)
-                memory.write((word ^ 1 << draws.randrange(64)).to_bytes(8, "little"))
-                return True
-    return False
+        memory.seek(low + draws.randrange((high - low) // 8) * 8)
+        word = int.from_bytes(memory.read(8), "little")
+        memory.seek(-8, os.SEEK_CUR)
+        memory.write((word ^ 1 << draws.randrange(64)).to_bytes(8, "little"))
+    return True
 
 
 def running(process):

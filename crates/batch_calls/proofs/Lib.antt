@@ -5,5 +5,6 @@ pub mod PlainTexts
 pub mod RanPieces
 pub mod RunEnds
 pub mod RunPieces
+pub mod Runs
 pub mod Untold
 pub mod Ways

@@ -4,24 +4,23 @@ use Rattle.std.specs.declared.option.Option.{Option}
 use Rattle.std.specs.declared.result.Result.{Result}
 use Rattle.std.specs.declared.result.Result.TheVariants.{Ok, Err}
 use Rattle.std.specs.Io.KnownBytes.{Appends}
-use Rattle.gp_base.specs.meaning.Sinks.{AppendsPrefix}
 use Rattle.reorder_list.specs.declared.report.Report.{Report}
 use Rattle.reorder_list.specs.declared.report.EngineStop.{EngineStop}
 use Rattle.reorder_list.specs.declared.report.StopWhy.{StopWhy}
 use Rattle.reorder_list.specs.declared.report.StopWhy.TheVariants as why
 use Rattle.gp_base.specs.declared.journal.Journal.{Journal}
-use Rattle.gp_base.proofs.Written.{prefix_none}
+use Rattle.gp_base.proofs.Written.{prefix_whole}
 use Rattle.command_line.specs.declared.asked.Asked.{Asked}
 use Rattle.call_cases.specs.meaning.Work.{ToDo}
 use Rattle.call_cases.specs.meaning.PlainText.{plain_ran}
 use Rattle.call_cases.specs.meaning.RunCommands.{IsWhole, end_status}
 use Rattle.call_cases.specs.declared.lines.Tool.TheVariants.{Gprs}
-use Rattle.call_cases.specs.meaning.Answers.{Change, IsEmpty}
+use Rattle.call_cases.specs.meaning.Answers.{Change, IsEmpty, TakesAll}
 use Rattle.call_cases.specs.Answers.{unwritten, LineEnds, whole, line_failed, line_no_memory, memory_line, write_line, RunEnds}
 use Rattle.call_cases.proofs.Headlines.{none_taken, run_of_failed, run_of_memory, run_of_whole}
 use Rattle.call_cases.proofs.RunSound.{empty_journal_of, retired_none}
 use Rattle.batch_calls.specs.inner.Planned.{Carries}
-use Rattle.batch_calls.specs.inner.Ran.{EndsFor, RanFor, StopsWith}
+use Rattle.batch_calls.specs.inner.Ran.{EndsFor, RanFor, StopsWith, TraceEnds}
 use Rattle.batch_calls.proofs.LoggedEnds.{unbegun_ends}
 
 -- a stop has a status of its own
@@ -33,16 +32,20 @@ stopped_whole due status line err is (line_no_memory part) told = grind (arith, 
 -- how a run over a journal ends, by what was written after it
 module _ (work : ToDo) (text trace : List ℕ) (out err : Change) (status : ℕ) where
   pub ran_to_end : (ran : Result Report EngineStop) (report : Report) (due : ℕ) → ran ≡ Ok report → due ≡ end_status report.end
-      → RanFor work text out ran → LineEnds due trace err status
+      → RanFor work text out ran → TraceEnds due trace err status
       → EndsFor work text trace out err status report.journal
   ran_to_end ran report due ok is_due went ends =
       let here = subst (RanFor work text out) ok went in
       record {
         ends =
             subst (λ d. RunEnds text trace d out err status) (is_due ∙ ap end_status here.report.end)
-            (run_of_whole Gprs text trace due out err status here.all ends);
+            (go here.all ends);
         journalled = record { lawful = here.journal; complete = λ is. here.report.complete; retired = here.retired };
       }
+    where
+      go : TakesAll out text → TraceEnds due trace err status → RunEnds text trace due out err status
+      go all (inl traced) = run_of_whole Gprs text trace due out err status all traced
+      go all (inr told) = run_of_memory Gprs text trace due out err status (prefix_whole out.written out.written' text all) told
 
   pub ran_to_stop : (ran : Result Report EngineStop) (stop : EngineStop) → ran ≡ Err stop → RanFor work text out ran
       → StopsWith stop.why err status → EndsFor work text trace out err status stop.journal
@@ -73,13 +76,11 @@ module _ (work : ToDo) (text trace : List ℕ) (out err : Change) (status : ℕ)
 
 -- no trace is asked for, and nothing is written
 pub untraced : (due : ℕ) (traced : Bool) (trace : List ℕ) (err : Change) → traced ≡ false → err.written' ≡ err.written
-    → LineEnds due (if traced then trace else []) err due
+    → TraceEnds due (if traced then trace else []) err due
 untraced due traced trace err is kept =
-    subst (λ b. LineEnds due (if b then trace else []) err due) (sym is)
-    (whole (subst (λ w. Appends err.written w []) (sym kept) (none_taken err.written)))
-
-pub trace_without : (due : ℕ) (line : List ℕ) (err : Change) → err.written' ≡ err.written → LineEnds due line err 1
-trace_without due line err kept = line_no_memory (subst (λ w. AppendsPrefix err.written w line) (sym kept) (prefix_none err.written line))
+    inl
+    (subst (λ b. LineEnds due (if b then trace else []) err due) (sym is)
+    (whole (subst (λ w. Appends err.written w []) (sym kept) (none_taken err.written))))
 
 -- a run that did not begin, since memory was out
 pub unbegun_carries : (asked : Asked) (work : ToDo) (written : Option (List ℕ)) (faults : ℕ) (err : Change) (status : ℕ) (journal : Journal)

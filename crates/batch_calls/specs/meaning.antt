@@ -2,3 +2,4 @@
 pub mod CkptCommands
 pub mod LogCommands
 pub mod WaitingCommands
+pub mod RunTheorem

@@ -1,6 +1,7 @@
 // What is requested, carried out; what runs over a journal, by the crew that is asked for.
-ghost use Rattle.std.specs.Prelude.{◌≡◌, ℕ, List, [], All, IfOk};
+ghost use Rattle.std.specs.Prelude.{◌≡◌, ℕ, List, [], All, IfOk, IfSome};
 ghost use Rattle.subthread.specs.Tasks.{Fits};
+ghost use Rattle.subthread.specs.meaning.Flaws.{Spares};
 ghost use Rattle.crew.specs.Out.{AreRuns};
 ghost use Rattle.steal_crew.specs.Batches.{AreCounted};
 ghost use Rattle.call_cases.specs.meaning.Answers.{Change, IsEmpty, change_of};
@@ -113,6 +114,7 @@ fn put_one_rechecked<R: Threads + Sync, O: Sink, G: Gate>(
 ) -> (Result<u8, SinkFault>, Recheck)
     requires sound { MayRun request }
     requires run { request.asked.command ≡ command.One }
+    requires spared { IfSome recheck Spares }
     ensures { PutFor (work_text command.One (work_of request)) (work_status command.One (work_of request)) (change_of O.written O.faults out.old out.new) result.0 }
 {
     let (work, plan, begins) = match plan_of(alloc, without_faults(alloc, request), recheck) {
@@ -162,6 +164,7 @@ fn carry_one<R: Threads + Sync, O: Sink, E: Sink, G: Gate>(
 ) -> (Outcome, Recheck)
     requires sound { MayRun request }
     requires run { request.asked.command ≡ command.One }
+    requires spared { IfSome recheck Spares }
     ensures { Carries request.asked (work_of request) (change_of O.written O.faults out.old out.new) (change_of E.written E.faults err.old err.new) result.0.status result.0.journal }
 {
     if !recheck.is_on() {
@@ -187,7 +190,8 @@ pub fn carry_out<R: Threads + Sync, O: Sink, E: Sink, G: Gate>(
     err: &mut E,
     gate: &G,
 ) -> (Outcome, Recheck)
-    requires { MayRun request }
+    requires sound { MayRun request }
+    requires spared { IfSome recheck Spares }
     ensures { Carries request.asked (work_of request) (change_of O.written O.faults out.old out.new) (change_of E.written E.faults err.old err.new) result.0.status result.0.journal }
 {
     match way_of(request.asked.command) {

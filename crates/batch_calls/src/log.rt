@@ -1,7 +1,8 @@
 // The top call that keeps a log of its run.
-ghost use Rattle.std.specs.Prelude.{◌≡◌, None};
+ghost use Rattle.std.specs.Prelude.{◌≡◌, None, IfSome};
 ghost use Rattle.command_line.specs.meaning.Words.{texts};
 ghost use Rattle.command_line.specs.meaning.LogWords.{log_by};
+ghost use Rattle.subthread.specs.meaning.Flaws.{Spares};
 ghost use Rattle.call_cases.specs.meaning.Answers.{change_of};
 ghost use Rattle.call_cases.specs.meaning.Headline.{Headline};
 ghost use Rattle.batch_calls.specs.meaning.LogCommands.{commands};
@@ -24,6 +25,7 @@ pub fn log_rechecked<R: Threads + Sync + AllocGlobal, H: Shelf, O: Sink, E: Sink
     err: &mut E,
     gate: &G,
 ) -> Outcome
+    requires spared { IfSome recheck Spares }
     ensures headline { Headline commands (record {
       words = texts words.now;
       files = H.files shelf.old;

@@ -1,10 +1,11 @@
 // Runs over a journal before they begin: the code of a program, and what its run begins with.
-ghost use Rattle.std.specs.Prelude.{◌≡◌, IfOk};
+ghost use Rattle.std.specs.Prelude.{◌≡◌, IfOk, IfSome};
 ghost use Rattle.task_ast.specs.View.{plain_program};
 ghost use Rattle.lock_checker.specs.Accepted.{program_of};
 ghost use Rattle.call_cases.specs.Decided.{IsSound, work_of};
 ghost use Rattle.command_line.specs.Words.{IsWithinRanges};
 ghost use Rattle.subthread.specs.Tasks.{program_in};
+ghost use Rattle.subthread.specs.meaning.Flaws.{Spares};
 ghost use Rattle.task_ast.specs.meaning.Layout.{layout};
 ghost use Rattle.task_code.specs.Flat.{code_of};
 ghost use Rattle.task_code.specs.Jumps.{IsCode};
@@ -59,10 +60,12 @@ fn work_and_layout(
     turns: u64,
     recheck: Recheck,
 ) -> Result<(Work, Layout), AllocError>
+    requires spared { IfSome recheck Spares }
     ensures code { IfOk result (λ made. IsCode (code_of made.0.code)) }
     ensures program { IfOk result (λ made. program_in made.0 ≡ plain_program (program_of checked.now)) }
     ensures feeds { IfOk result (λ made. made.0.feeds ≡ feeds.now) }
     ensures turns { IfOk result (λ made. made.0.turns ≡ turns) }
+    ensures spared { IfOk result (λ made. IfSome made.0.recheck Spares) }
     ensures layout { IfOk result (λ made. made.1 ≡ layout (program_of checked.now).heads) }
 {
     let mut recheck = recheck;
@@ -86,7 +89,8 @@ pub fn plan_of(
     request: Request,
     recheck: Recheck,
 ) -> Result<(Work, AskedRun, Begins), AllocError>
-    requires { IsSound request.asked (plain_program (program_of request.checked)) request.inputs }
+    requires sound { IsSound request.asked (plain_program (program_of request.checked)) request.inputs }
+    requires spared { IfSome recheck Spares }
     ensures plan { IfOk result (λ made. IsPlanned made.1 made.0 made.2) }
     ensures work { IfOk result (λ made. work_planned made.1 made.2 ≡ work_of request) }
     ensures asked { IfOk result (λ made. made.1.asked ≡ request.asked) }

@@ -1,5 +1,7 @@
 // What words ask for, however they are read.
-ghost use Rattle.std.specs.Prelude.{◌≡◌, ℕ, List, Option, IfOk, IfSome};
+ghost use Rattle.std.specs.Prelude.{◌≡◌, ℕ, List, Option, is_some, IfOk, IfSome};
+ghost use Rattle.std.specs.Bool.{Decides};
+ghost use Rattle.call_cases.specs.declared.agreed.Reading as reading;
 ghost use Rattle.command_line.specs.Words.{IsWithinLimits};
 ghost use Rattle.command_line.specs.declared.asked.Asked.{Asked};
 ghost use Rattle.call_cases.specs.Decided.{MayRun};
@@ -11,8 +13,10 @@ use gp_base::Shelf;
 use std::alloc::{AllocError, Global};
 use subthread::{Disturbance, Recheck};
 
-/// How files are read for a run under this recheck: twice where its walks are made twice.
-pub fn reading_under(recheck: &Recheck) -> Reading {
+/// How files are read for a run under this recheck: once where its walks are made once, and else at least twice.
+pub fn reading_under(recheck: &Recheck) -> Reading
+    ensures { Decides (is_some recheck.now) (result ≡ reading.Once → ⊥) }
+{
     if !recheck.is_on() {
         return Reading::Once;
     }

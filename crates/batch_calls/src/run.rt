@@ -9,13 +9,13 @@ ghost use Rattle.restart_log.specs.meaning.Trace.{trace_text};
 ghost use Rattle.command_line.specs.declared.asked.Command.TheVariants as command;
 ghost use Rattle.command_line.specs.declared.asked.Asked.{Asked};
 ghost use Rattle.call_cases.specs.meaning.Answers.{Change, change_of};
-ghost use Rattle.call_cases.specs.Answers.{LineEnds, PutFor, unwritten};
+ghost use Rattle.call_cases.specs.Answers.{PutFor, unwritten};
 ghost use Rattle.call_cases.specs.meaning.PlainText.{plain_ran, restarts_in};
 ghost use Rattle.call_cases.specs.meaning.RunCommands.{end_status};
 ghost use Rattle.call_cases.specs.meaning.Texts.{run_text, run_soak};
 ghost use Rattle.call_cases.specs.meaning.Work.{ToDo};
 ghost use Rattle.batch_calls.specs.inner.Planned.{IsPlanned, Carries, work_planned};
-ghost use Rattle.batch_calls.specs.inner.Ran.{RanFor, RunsWork, EndsFor, StopsWith, WritesLines, why_of, fault_of, told_tail, told_soak};
+ghost use Rattle.batch_calls.specs.inner.Ran.{RanFor, RunsWork, EndsFor, StopsWith, TraceEnds, WritesLines, why_of, fault_of, told_tail, told_soak};
 ghost use Rattle.batch_calls.specs.inner.Ways.{Writes};
 
 use crate::basis::{Basis, Output};
@@ -28,7 +28,7 @@ use call_cases::{
 use command_line::Soak;
 use crew::{Crew, InlineCrew};
 use engine::{EngineStop, Report, StopWhy, drive};
-use gp_base::{Gate, Journal, NeverSink, Pos, Sink, SinkFault, Text, put_all};
+use gp_base::{Gate, Journal, NeverSink, Pos, Seq, Sink, SinkFault, Text, put_all};
 use gp_checkpoint::ckpt_drive;
 use restart_log::{is_soak_text, is_tail_text, soak_text, tail_text, trace_text};
 use std::alloc::{AllocError, Global};
@@ -78,12 +78,15 @@ fn tail_of(alloc: Global, basis: &Basis, report: &Report) -> Result<Text, AllocE
 {
     let checked = &basis.plan.checked;
     let recheck = &basis.work.recheck;
-    let tail = tail_text(alloc, checked, report)?;
-    if recheck.is_on() && !is_tail_text(alloc, tail.as_slice(), checked, report)? {
-        recheck.note_damaged(last_of(report));
-        return Err(AllocError);
+    let mut tail = tail_text(alloc, checked, report)?.into_vec();
+    if recheck.is_on() {
+        recheck.disturb_text(&mut tail);
+        if !is_tail_text(alloc, &tail, checked, report)? {
+            recheck.note_damaged(last_of(report));
+            return Err(AllocError);
+        }
     }
-    Ok(tail)
+    Ok(Seq::from_vec(tail))
 }
 
 // The summary of a batch that the program made; where walks are compared, it is made twice, as `tail_of` does.
@@ -96,12 +99,15 @@ fn summary_of(
     ensures { IfOk result (λ text. text ≡ told_soak soak report.now) }
 {
     let (moves, start) = (soak.moves, soak.start);
-    let summary = soak_text(alloc, moves, start, report)?;
-    if recheck.is_on() && !is_soak_text(alloc, summary.as_slice(), moves, start, report)? {
-        recheck.note_damaged(last_of(report));
-        return Err(AllocError);
+    let mut summary = soak_text(alloc, moves, start, report)?.into_vec();
+    if recheck.is_on() {
+        recheck.disturb_text(&mut summary);
+        if !is_soak_text(alloc, &summary, moves, start, report)? {
+            recheck.note_damaged(last_of(report));
+            return Err(AllocError);
+        }
     }
-    Ok(summary)
+    Ok(Seq::from_vec(summary))
 }
 
 /// Writes what follows the printed lines.
@@ -225,16 +231,16 @@ fn put_soak<R: Threads + Sync, C: Crew, O: Sink>(
 }
 
 // Writes the trace of a journal, where one is asked for, and answers the status that is due. It is 8 where the write
-// fails, and 1 where memory runs out.
+// fails, and 1 where memory runs out, whose line is written where there is none to make the trace.
 fn put_trace<E: Sink>(alloc: Global, is_traced: bool, journal: &Journal, err: &mut E, due: u8) -> u8
-    ensures { LineEnds due (if is_traced then trace_text journal.now else []) (change_of E.written E.faults err.old err.new) result }
+    ensures { TraceEnds due (if is_traced then trace_text journal.now else []) (change_of E.written E.faults err.old err.new) result }
 {
     if !is_traced {
         return due;
     }
     match trace_text(alloc, journal) {
         Ok(trace) => end_with(err, trace.as_slice(), due),
-        Err(_) => 1,
+        Err(_) => tell_line(Tool::Gprs, err, OUT_OF_MEMORY, 1),
     }
 }
 

@@ -4,6 +4,7 @@ ghost use Rattle.command_line.specs.meaning.Words.{texts};
 ghost use Rattle.call_cases.specs.meaning.RunCommands.{commands};
 ghost use Rattle.call_cases.specs.meaning.Answers.{change_of};
 ghost use Rattle.call_cases.specs.meaning.Headline.{Headline, ReadsNothing};
+ghost use Rattle.batch_calls.specs.meaning.RunTheorem.{RunsBatch};
 
 use crate::crews::carry_out;
 use call_cases::{Outcome, read_request, refused_outcome};
@@ -30,6 +31,18 @@ pub fn gprs_run<R: Threads + Sync + AllocGlobal, H: Shelf, O: Sink, E: Sink, G: 
     gate: &G,
 ) -> Outcome
     ensures headline { Headline commands (record {
+      words = texts words.now;
+      files = H.files shelf.old;
+      failed = H.failed shelf.old;
+      failed' = H.failed shelf.new;
+      out = change_of O.written O.faults out.old out.new;
+      err = change_of E.written E.faults err.old err.new;
+      status = result.status;
+      journal = result.journal;
+    }) }
+
+    // What a run is asked for publishes, in plain words.
+    ensures run { RunsBatch (record {
       words = texts words.now;
       files = H.files shelf.old;
       failed = H.failed shelf.old;

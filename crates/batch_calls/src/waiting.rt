@@ -1,10 +1,11 @@
 // The top call whose workers may last, and which may wait for them.
-ghost use Rattle.std.specs.Prelude.{◌≡◌, IfOk};
+ghost use Rattle.std.specs.Prelude.{◌≡◌, IfOk, IfSome};
 ghost use Rattle.std.specs.Arc.{arc_value};
 ghost use Rattle.task_ast.specs.View.{plain_program};
 ghost use Rattle.lock_checker.specs.Accepted.{program_of};
 ghost use Rattle.crew.specs.Unposted.{IsUnposted};
 ghost use Rattle.command_line.specs.meaning.Words.{texts, asked_waiting};
+ghost use Rattle.subthread.specs.meaning.Flaws.{Spares};
 ghost use Rattle.call_cases.specs.meaning.Answers.{change_of};
 ghost use Rattle.call_cases.specs.Decided.{IsSound, MayRun, work_of};
 ghost use Rattle.call_cases.specs.meaning.Headline.{Headline, ReadsNothing};
@@ -159,6 +160,7 @@ pub fn run_rechecked<R: Threads + Sync + AllocGlobal, H: Shelf, O: Sink, E: Sink
     err: &mut E,
     gate: &G,
 ) -> (Outcome, Recheck)
+    requires spared { IfSome recheck Spares }
     ensures headline { Headline commands (record {
       words = texts words.now;
       files = H.files shelf.old;

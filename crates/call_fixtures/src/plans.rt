@@ -2,6 +2,7 @@
 ghost use Rattle.std.specs.Prelude.{IfOk, IfSome};
 ghost use Rattle.gp_base.specs.Files.{HasDistinctNames};
 ghost use Rattle.subthread.specs.Tasks.{Suits};
+ghost use Rattle.subthread.specs.meaning.Flaws.{Spares};
 
 use batch_calls::plan::{Begins, plan_of};
 use batch_fixtures::files::words_of;
@@ -18,7 +19,8 @@ pub fn planned(
     files: Seq<(Name, Text)>,
     recheck: Recheck,
 ) -> Result<Option<(Work, Begins)>, AllocError>
-    requires { HasDistinctNames files }
+    requires names { HasDistinctNames files }
+    requires spared { IfSome recheck Spares }
     ensures { IfOk result (λ made. IfSome made (λ plan. Suits plan.0 plan.1.layout plan.1.inputs plan.1.limits)) }
 {
     let words = words_of(alloc, words)?;

@@ -25,12 +25,12 @@ use Rattle.gp_resume.specs.meaning.Reading.{IsLogOf}
 use Rattle.gp_resume.specs.meaning.Resumed.{lines_of}
 use Rattle.gp_resume.specs.meaning.Resumed as rest
 use Rattle.gp_resume.specs.Laws.{own_rows, text_before}
-use Rattle.gp_resume.proofs.Texts.{joined}
+use Rattle.gp_resume.proofs.Texts.{bytes-known, joined}
 use Rattle.command_line.specs.declared.asked.Asked.{Asked}
 use Rattle.command_line.specs.declared.asked.Command.TheVariants.{One, Log}
 use Rattle.call_cases.specs.meaning.Work.{Files, ToDo, is_journalled, work_for, Case, Refused, Go, after_file}
 use Rattle.call_cases.specs.meaning.Answers.{Change, TakesAll}
-use Rattle.call_cases.specs.meaning.Case.{IsCaseOf, IsCase, no_program, of_text, IsCheckedCase, IsMeantCase, ForCase, ForRun, HasWork, text_of}
+use Rattle.call_cases.specs.meaning.Case.{IsCaseOf, IsCase, no_program, of_text, IsCheckedCase, IsMeantCase, ForCase, ForRun, text_of}
 use Rattle.call_cases.specs.meaning.InputFiles.{supplied_for, then_load, with_faults, load_faults}
 use Rattle.call_cases.specs.meaning.Journals.{run_of, retired_in, lines_before, HoldsRetired, TakesRetiredFor}
 use Rattle.call_cases.specs.meaning.RunCommands as run
@@ -42,7 +42,7 @@ use Rattle.resume_calls.specs.meaning.ResumeCommands as resume
 use Rattle.resume_calls.proofs.HaltedCases.{rows_case, supplies_once}
 use Rattle.resume_calls.proofs.JoinedTexts.{cut_joined, same_text}
 use Rattle.call_laws.specs.meaning.Laws.{Wrote, HasBegun, IsSameBatch, BeginsText, LoggedLaw}
-use Rattle.call_laws.proofs.Parts.{told_answer, lines_split}
+use Rattle.call_laws.proofs.Parts.{first_bytes, told_answer, lines_split}
 
 -- ---- what there is to do is done with an accepted program
 
@@ -169,9 +169,11 @@ module _ (work other : ToDo) (same : IsSameBatch work other) where
 -- ---- the law
 
 pub logged_law : LoggedLaw
-logged_law call files names work logged headline known is command begun wrote short resumed files' names' other case is' same holds is_case = (
-  subst HasWork one tt,
+logged_law call files names work logged headline known is command begun wrote kept resumed files' names' other case is' same holds short is_case = (
+  rows,
   length (text_before other.program other.inputs other.limits p),
+  bytes-known other.program other.inputs other.limits p found.1,
+  sym one,
   subst (λ c. take (length (text_before other.program other.inputs other.limits p)) (run.work_text One other) ++ text_of resume.commands c
       ≡ run.work_text One other) one
       (cut_joined (text_before other.program other.inputs other.limits p)
@@ -189,14 +191,18 @@ logged_law call files names work logged headline known is command begun wrote sh
         subst (λ told. TellsPart call.err.written call.err.written' (take k told)) (left_same work other same)
         (logged_of call files names work headline known is command begun)
 
+    all : List ℕ
+    all = log_told (take k (left_in_order other.program other.inputs other.limits))
+
     accepted : IsAccepted other.program
     accepted = accepted_case resumed.run files' (Go names' other) is'
 
     found : (p : ℕ) × (p ≤ length (plain_order other.program other.inputs other.limits)) × (p ≤ k)
-        × IsLogOf other.program other.inputs other.limits
-        (take part.part (log_told (take k (left_in_order other.program other.inputs other.limits))))
-        (own_rows other.program other.inputs other.limits p)
-    found = told_answer other.program other.inputs other.limits accepted k call.err.written call.err.written' part
+        × IsLogOf other.program other.inputs other.limits (take kept (take part.part all)) (own_rows other.program other.inputs other.limits p)
+    found =
+        let first = first_bytes kept part.part all in
+        told_answer other.program other.inputs other.limits accepted k call.err.written call.err.written' part (take kept (take part.part all))
+        first.0 first.1 first.2
 
     p : ℕ
     p = found.0
@@ -204,11 +210,11 @@ logged_law call files names work logged headline known is command begun wrote sh
     rows : List Retirement
     rows = own_rows other.program other.inputs other.limits p
 
-    log_of : IsLogOf other.program other.inputs other.limits logged rows
+    log_of : IsLogOf other.program other.inputs other.limits (take kept logged) rows
     log_of =
-        subst (λ bytes. IsLogOf other.program other.inputs other.limits bytes rows) (sym (took call.err logged _ wrote part.taken)) found.3
+        subst (λ bytes. IsLogOf other.program other.inputs other.limits (take kept bytes) rows) (sym (took call.err logged _ wrote part.taken)) found.3
 
     one : Go (names' ++ resumed.log ∷ []) (record { work = other; rows = rows }) ≡ case
     one =
         one_case_of resume.asking supplies_once resumed files' (Go (names' ++ resumed.log ∷ []) (record { work = other; rows = rows })) case
-        (rows_case resumed files' names' other logged rows is' (holds, short) log_of) is_case
+        (rows_case resumed files' names' other (take kept logged) rows is' (holds, short) log_of) is_case

@@ -1,8 +1,7 @@
 -- What the first bytes of a run's own log come to, where notes told them; and how much of the text was there before.
-use Rattle.std.proofs.Common.{◌≡◌, inl, inr, ◌≤◌, ℕ, zero, suc, List, [], ◌∷◌, ◌++◌, length, take, drop, Option, refl, sym, ap, subst, ◌∙◌, arith}
+use Rattle.std.proofs.Common.{◌≡◌, ◌≤◌, ℕ, zero, suc, List, [], ◌∷◌, ◌++◌, length, take, drop, Option, refl, sym, ap, subst, ◌∙◌, arith, append_assoc}
 use Rattle.std.specs.Prelude.{All, codes}
-use Rattle.std.proofs.lemmas.Bool.{cases_lt}
-use Rattle.std.proofs.lemmas.List.{length-append, length-take, length-take-le, take_all, take-append-le, take-append-drop}
+use Rattle.std.proofs.lemmas.List.{length-append, length-take, take-append-drop}
 use Rattle.std.proofs.lemmas.Grind.{flat_map-append}
 use Rattle.std.proofs.Math.Seq.{take-append_seam}
 use Rattle.gp_base.specs.declared.limits.Limits.{Limits}
@@ -27,17 +26,19 @@ use Rattle.gp_resume.proofs.Replaying.{length-left, length-rows}
 
 -- ---- lists
 
--- as many of the first bytes of a list as of a part of its front are that part
-part_of : (n : ℕ) (xs ys : List ℕ) → take (length (take n xs)) (xs ++ ys) ≡ take n xs
-part_of n xs ys =
-    elim (cases_lt (length xs) n) [
-      | inl more ↦
-          let all = take_all n xs (omega (arith, more)) in
-          ap (λ zs. take (length zs) (xs ++ ys)) all ∙ (take-append_seam xs ys ∙ sym all)
-      | inr within ↦
-          let size = length-take-le n xs (omega (arith, within)) in
-          ap (λ m. take m (xs ++ ys)) size ∙ take-append-le n xs ys (omega (arith, within))
-    ]
+-- the first bytes of the first bytes of a list, and what stands after them there
+pub first_bytes : (kept part : ℕ) (all : List ℕ)
+    → (more : List ℕ) × (all ≡ take kept (take part all) ++ more) × (length (take kept (take part all)) ≤ part)
+first_bytes kept part all =
+    let front = take part all in
+    let sizes = length-take kept front in
+    let size = length-take part all in (
+      drop kept front ++ drop part all,
+      sym (take-append-drop part all)
+          ∙ (ap (λ bytes. bytes ++ drop part all) (sym (take-append-drop kept front))
+          ∙ append_assoc (take kept front) (drop kept front) (drop part all)),
+      omega (arith, sizes, size),
+    )
 
 -- the first of the first are the first
 first_of_first : {X : Type 0} (p k : ℕ) (xs : List X) → p ≤ k → take p (take k xs) ≡ take p xs
@@ -85,10 +86,11 @@ module _ (program : Program) (inputs : Inputs) (limits : Limits) (accepted : IsA
   first_rows k = rows_first 0 (length (codes "output\n")) k told
 
   -- a part of the log of the first positions comes to rows, which are of these
-  pub told_answer : (k : ℕ) (start written : Option (List ℕ)) (part : TellsPart start written (take k told))
+  pub told_answer : (k : ℕ) (start written : Option (List ℕ)) (part : TellsPart start written (take k told)) (bytes more : List ℕ)
+      → log_told (take k told) ≡ bytes ++ more → length bytes ≤ part.part
       → (p : ℕ) × (p ≤ length (plain_order program inputs limits)) × (p ≤ k)
-      × IsLogOf program inputs limits (take part.part (log_told (take k told))) (own_rows program inputs limits p)
-  told_answer k start written part = (
+      × IsLogOf program inputs limits bytes (own_rows program inputs limits p)
+  told_answer k start written part bytes more first shorter = (
     found.0,
     found.1,
     within found.0 found.1 found.2,
@@ -98,19 +100,14 @@ module _ (program : Program) (inputs : Inputs) (limits : Limits) (accepted : IsA
       all : List ℕ
       all = log_told (take k told)
 
-      bytes : List ℕ
-      bytes = take part.part (log_told (take k told))
-
       same : take (length bytes) (log program inputs limits) ≡ bytes
       same =
           let split = log_split k told in
-          ap (take (length bytes)) split.1 ∙ part_of part.part all split.0
+          ap (take (length bytes)) (split.1 ∙ (ap (λ front. front ++ split.0) first ∙ append_assoc bytes more split.0))
+          ∙ take-append_seam bytes (more ++ split.0)
 
       size : length bytes ≤ length all
-      size = let parts = length-take part.part all in omega (arith, parts)
-
-      shorter : length bytes ≤ part.part
-      shorter = let parts = length-take part.part all in omega (arith, parts)
+      size = let whole = ap length first in let parts = length-append bytes more in omega (arith, whole, parts)
 
       within : (p : ℕ) → p ≤ length (plain_order program inputs limits) → length (log_text (own_rows program inputs limits p)) ≤ length bytes → p ≤ k
       within p few whole =

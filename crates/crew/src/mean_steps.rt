@@ -7,27 +7,36 @@ use std::alloc::{AllocError, AllocFailed, Global};
 use std::sync::atomic::{AtomicU64, Ordering};
 use subthread::{Done, Task, Work, run_counted};
 use task_ast::SyncOp;
-use task_code::Code;
+use task_code::{Code, Does, Instr};
 
 // What stands in the table where no run has gone on from a place. Each run makes a step at least.
 const UNSEEN: u64 = 0;
 
-// How many steps a task is reckoned to make that goes on from such a place: so many that what is new is shared out.
-const NEW_STEPS: u64 = 1_000_000;
+// How many steps a task is reckoned to make that goes on from such a place and may come to a loop without a
+// synchronisation in it: so many that what is new is shared out.
+const LOOP_STEPS: u64 = 1_000_000;
 
-// How many control steps make up for one more thread. A step takes about 35 ns, so these take about a millisecond.
-// Measured on four processors: where they were idle, threads that are started and joined made up for themselves from
-// 0.1 ms of work on. Where other programs kept them busy, tasks that were shared out took 2 to 4 ms however light they
-// were, and gained from 10 ms on. This number lies between: it forgoes little on an idle machine, and loses little on a
-// busy one.
-const THREAD_STEPS: u64 = 30_000;
+// How many control steps make up for one more thread. A step takes about 35 ns, so these take about 10 ms. Measured on
+// four processors: where they were idle, threads that are started and joined made up for themselves from 0.1 ms of work
+// on. Where other programs kept them busy, tasks that were shared out took 2 to 4 ms however light they were, and gained
+// from 10 ms on. Most batches run beside other work, so this number is that of a busy machine: an idle one forgoes some
+// milliseconds by it.
+const THREAD_STEPS: u64 = 300_000;
+
+// A place from which runs go on: the mean of their steps, and how many a run makes from there at most, as far as the code
+// tells.
+#[derive(Drop)]
+struct Place {
+    mean: AtomicU64,
+    most: u64,
+}
 
 /// How many control steps the runs make that go on from each place of a program, as a mean in which the last ones count
 /// most. All workers of a batch share it. They read and write it in no order, so it says something else in each run;
 /// nothing hangs on it but how tasks are shared out.
 #[derive(Drop)]
 pub struct MeanSteps {
-    by_place: Vec<Vec<AtomicU64>>,
+    by_place: Vec<Vec<Place>>,
 }
 
 // The place from which the run of a task goes on once its synchronisation is done.
@@ -41,17 +50,66 @@ fn place_of(task: &Task) -> At {
     }
 }
 
-// A number for each instruction of a task, and one for its end.
-fn places(alloc: Global, code: &Code, task: u32) -> Result<Vec<AtomicU64>, AllocError> {
+// The most steps from a place to the next synchronisation.
+fn most_from(most: &[u64], place: usize) -> u64 {
+    most.get(place).copied().unwrap_or(0)
+}
+
+// The same from an instruction that stands at a place, by those of the places to which it leads.
+fn most_at(most: &[u64], place: usize, does: &Does) -> u64 {
+    let next = place.saturating_add(1);
+    let further = match does {
+        Does::Assign(..) | Does::Do(_) => most_from(most, next),
+        Does::GoOn(passed) => most_from(most, next.saturating_add(*passed)),
+        Does::Unless(_, passed) => {
+            most_from(most, next).max(most_from(most, next.saturating_add(*passed)))
+        }
+        Does::Again(_, passed) => {
+            most_from(most, next).max(most_from(most, place.saturating_sub(*passed)))
+        }
+        _ => return 0,
+    };
+    further.saturating_add(1).min(LOOP_STEPS)
+}
+
+// Brings the most steps from each place up to date by those of later ones, and of earlier ones as they stood.
+fn pass_over(most: &mut [u64], instrs: &[Instr]) {
+    for place in (0..instrs.len()).rev() {
+        let steps = most_at(most, place, &instrs[place].does);
+        if let Some(there) = most.get_mut(place) {
+            *there = steps;
+        }
+    }
+}
+
+// The most steps from each instruction of a task, and from its end, to the next synchronisation, as far as the code
+// tells: from where it may come to a loop without one in it, as many as such a loop counts. In the first pass each loop is
+// taken for one; the second knows from where its body begins.
+fn most_steps(alloc: Global, instrs: &[Instr]) -> Result<Vec<u64>, AllocError> {
+    let mut most = Vec::new(alloc);
+    for _ in instrs {
+        most.push(LOOP_STEPS)?;
+    }
+    most.push(0)?;
+    pass_over(&mut most, instrs);
+    pass_over(&mut most, instrs);
+    Ok(most)
+}
+
+// A place for each instruction of a task, and one for its end.
+fn places(alloc: Global, code: &Code, task: u32) -> Result<Vec<Place>, AllocError> {
     let mut places = Vec::new(alloc);
-    for _ in 0..=code.instrs(task).len() {
-        places.push(AtomicU64::new(UNSEEN))?;
+    for most in most_steps(alloc, code.instrs(task))? {
+        places.push(Place {
+            mean: AtomicU64::new(UNSEEN),
+            most: most.max(1),
+        })?;
     }
     Ok(places)
 }
 
 // The places of all tasks.
-fn all_places(alloc: Global, code: &Code) -> Result<Vec<Vec<AtomicU64>>, AllocError> {
+fn all_places(alloc: Global, code: &Code) -> Result<Vec<Vec<Place>>, AllocError> {
     let mut by_place = Vec::new(alloc);
     for task in 0..u32::MAX {
         if code.start(task).is_none() {
@@ -81,19 +139,20 @@ impl MeanSteps {
         MeanSteps { by_place }
     }
 
-    // The mean of a place.
-    fn mean(&self, at: At) -> Option<&AtomicU64> {
+    // What stands of a place.
+    fn at(&self, at: At) -> Option<&Place> {
         self.by_place.get(at.task as usize)?.get(at.pc as usize)
     }
 
-    /// How many steps the run of a task is reckoned to make: 1 at least.
+    /// How many steps the run of a task is reckoned to make: 1 at least. Where none has gone on from its place, these are
+    /// the most that the code allows, or those of a loop.
     pub fn reckoned(&self, task: &Task) -> u64 {
-        match self.mean(place_of(task)) {
-            Some(mean) => match mean.load(Ordering::SeqCst) {
-                UNSEEN => NEW_STEPS,
+        match self.at(place_of(task)) {
+            Some(place) => match place.mean.load(Ordering::SeqCst) {
+                UNSEEN => place.most,
                 steps => steps,
             },
-            None => NEW_STEPS,
+            None => LOOP_STEPS,
         }
     }
 
@@ -109,18 +168,18 @@ impl MeanSteps {
     /// Notes that the run of a task like this one, from the same place, made so many steps. The first run is the mean
     /// of its place; each later one counts an eighth in it.
     pub fn note(&self, task: &Task, steps: u64) {
-        if let Some(mean) = self.mean(place_of(task)) {
-            let next = match mean.load(Ordering::SeqCst) {
+        if let Some(place) = self.at(place_of(task)) {
+            let next = match place.mean.load(Ordering::SeqCst) {
                 UNSEEN => steps,
                 last => last.saturating_sub(last / 8).saturating_add(steps / 8),
             };
-            mean.store(next.max(1), Ordering::SeqCst);
+            place.mean.store(next.max(1), Ordering::SeqCst);
         }
     }
 
     /// How many workers these tasks are worth, at most so many: one where the last runs from the same places were
     /// light, and more the more steps lie beside those of the longest task. Tasks that go on from where none has count
-    /// as heavy.
+    /// as heavy where they may come to a loop.
     pub fn workers(&self, tasks: &[Task], most: u32) -> u32
         ensures some { 1 ≤ result }
         ensures most { result ≤ max 1 most }

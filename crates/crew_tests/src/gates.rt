@@ -1,7 +1,6 @@
 // Runs of which two tasks, or three, are at a gate at the same time. No clause says that two threads run, nor that no more
 // do than were asked for.
 
-use batch_fixtures::programs::ADD;
 use call_fixtures::answers::answer_through;
 use call_fixtures::cases::{Call, Case, PLAIN, RUN};
 use gp_base::{Gate, Pos};
@@ -58,11 +57,31 @@ impl Gate for Meeting {
     }
 }
 
-/// Positions 4, 5 and 6 are ready at once, and no run has gone on from where they do, so they count as heavy.
+/// Two threads that add to one total, each after a loop: no run has gone on from where they begin, so they count as heavy.
+pub const LOOPED_ADD: &str = "lock tally[1];
+record total[1] by tally;
+task add(n) {
+  var k, $t;
+  while k < 2 { k = k + 1; }
+  lock tally[0];
+  read total[0] into $t;
+  write total[0] = $t + n;
+  unlock tally[0];
+}
+task main() {
+  fork add(3);
+  fork add(4);
+  join 1;
+  join 2;
+}
+";
+
+/// Positions 4, 5 and 6 are ready at once and begin with a loop, and no run has gone on from where they do, so they count as
+/// heavy.
 pub const THREE: &str = "lock door[1];
-task first() { lock door[0]; unlock door[0]; }
-task second() { }
-task third() { }
+task first() { var k; while k < 2 { k = k + 1; } lock door[0]; unlock door[0]; }
+task second() { var k; while k < 2 { k = k + 1; } }
+task third() { var k; while k < 2 { k = k + 1; } }
 task main() { fork first(); fork second(); fork third(); join 1; join 2; join 3; }
 ";
 
@@ -129,11 +148,11 @@ fn meet<R: Threads + Sync + AllocGlobal>(
 }
 
 const ADDERS: Case<'static> = Case {
-    program: ADD,
+    program: LOOPED_ADD,
     ..RUN
 };
 
-// The rows of the first two positions of the log of `ADD`.
+// The rows of the first two positions of the log of `LOOPED_ADD`.
 const FIRST_TWO: &str = "0 7 ; 0 ; ;\n1 7 ; 0 ; 0 0 ;\n";
 
 static PAIRS: [Case<'static>; 6] = [

@@ -1,6 +1,6 @@
 // The call that may wait, with lasting workers: the same rows as by the others.
 
-use crate::gates::{Crowd, Meeting, THREE};
+use crate::gates::{Crowd, LOOPED_ADD, Meeting, THREE};
 use batch_calls::gprs_run_pipe;
 use batch_fixtures::files::words_of;
 use batch_fixtures::programs::{ADD, ADDED, EMPTY};
@@ -138,7 +138,7 @@ fn meets<R: Threads + Wait + Clone + Send + Sync + Drop + AllocGlobal + 'static>
     let gate = Arc::new(rt.alloc(), Meeting::new(are_to))?;
     let case = Case {
         words,
-        program: ADD,
+        program: LOOPED_ADD,
         ..PLAIN
     };
     let answer = answer_through(rt, &case, &gate)?;

@@ -1,30 +1,14 @@
 //! Runs batch programs as `gprs` does, with each subthread walked twice.
 #![tactic(auto)]
 
-use call_cases::{OUT_OF_MEMORY, Outcome, Tool, tell_line};
-use gp_base::{FreeGate, Shelf, Sink};
+mod calls;
+
+use call_cases::{OUT_OF_MEMORY, Tool, tell_line};
+use calls::status_by;
+use gp_base::Seq;
 use process_io::{FileShelf, StdSink, words_of};
 use std::io;
 use std::process::ExitCode;
-use std::thread::Threads;
-use twice_calls::{twice_log_run, twice_run};
-
-// Does what the words ask for: by the call that keeps a log where the first of them is `log`, and else, also for words of
-// no command, by the other.
-fn outcome_of<R: Threads + Sync + AllocGlobal, H: Shelf, O: Sink, E: Sink>(
-    rt: &R,
-    words: &[String],
-    shelf: &mut H,
-    out: &mut O,
-    err: &mut E,
-) -> Outcome {
-    match words {
-        [word, ..] if word.as_str() == "log" => {
-            twice_log_run(rt, words, shelf, out, err, &FreeGate)
-        }
-        _ => twice_run(rt, words, shelf, out, err, &FreeGate),
-    }
-}
 
 fn main(rt: HostRuntime) -> ExitCode {
     let mut err = StdSink::new(rt.stderr());
@@ -38,6 +22,7 @@ fn main(rt: HostRuntime) -> ExitCode {
     };
     let mut shelf = FileShelf::new(&rt);
     let mut out = StdSink::new(rt.stdout());
-    let outcome = outcome_of(&rt, &words, &mut shelf, &mut out, &mut err);
-    ExitCode::from(outcome.status)
+    let flaws = Seq::new(rt.alloc());
+    let status = status_by(&rt, &words, &mut shelf, flaws, &mut out, &mut err);
+    ExitCode::from(status)
 }

@@ -1,5 +1,5 @@
 -- A task without code fits.
-use Rattle.std.proofs.Common.{◌≡◌, ℕ, Bool, true, List, [], ◌∷◌, length, map, refl, sym, ap, ◌∙◌, subst, arith}
+use Rattle.std.proofs.Common.{◌≡◌, ℕ, Bool, true, List, [], ◌∷◌, length, map, None, IfSome, refl, sym, ap, ◌∙◌, subst, arith}
 use Rattle.std.specs.Prelude.{All, slice_get}
 use Rattle.std.specs.List.Sorted.{IsStrictlyIncreasing}
 use Rattle.task_ast.specs.declared.sync.SyncOp.TheVariants as sync
@@ -18,6 +18,7 @@ use Rattle.subthread.specs.declared.task.Work.{Work}
 use Rattle.subthread.specs.declared.task.Task.{Task}
 use Rattle.task_ast.specs.SyncOps.{IsNumbered}
 use Rattle.subthread.specs.Tasks.{actions_from, place_of, under_of, Fits}
+use Rattle.subthread.specs.meaning.Flaws.{Spares}
 
 -- it does nothing
 does_nothing : (work : Work) (q : Place) (test : ℕ → Bool) → instrs_of (code_of work.code).tasks q.at.task ≡ []
@@ -33,8 +34,8 @@ does_nothing work q test none =
     tt
 
 pub idle_fits : (work : Work) (task : Task) → task.given.bundles ≡ [] → task.begins.sync ≡ sync.Start
-    → instrs_of (code_of work.code).tasks task.at.task ≡ [] → Fits work task
-idle_fits work task none start idle = record {
+    → instrs_of (code_of work.code).tasks task.at.task ≡ [] → work.recheck ≡ None → Fits work task
+idle_fits work task none start idle sound = record {
   rising = subst (λ (bundles : List Bundle). IsStrictlyIncreasing (map lock_in bundles)) (sym none) (λ k less. absurd (omega arith));
   sizes =
       subst (λ (bundles : List Bundle). All (λ (b : Bundle). length b.cells ≡ length (under_lock (under_of work) b.lock)) bundles)
@@ -44,6 +45,7 @@ idle_fits work task none start idle = record {
       subst (λ op. AllName (is_under (under_of work) (map lock_in task.given.bundles)) (actions_from work op task.child (place_of task)))
       (sym start)
       (does_nothing work (place_of task) (is_under (under_of work) (map lock_in task.given.bundles)) idle);
+  spared = subst (λ recheck. IfSome recheck Spares) (sym sound) tt;
 }
 
 pub none_there : {A B : Type 0} (f : A → B) (xs : List A) → length xs ≡ 0 → map f xs ≡ []

@@ -1,5 +1,5 @@
 // A crew of lasting threads, with tasks of a program that does nothing.
-ghost use Rattle.std.specs.Prelude.{◌≡◌, [], ◌∷◌, ◌++◌, Contains, IsTrue, IfOk, OnOk};
+ghost use Rattle.std.specs.Prelude.{◌≡◌, [], ◌∷◌, ◌++◌, None, Contains, IsTrue, IfOk, OnOk};
 ghost use Rattle.task_code.specs.Flat.{code_of};
 ghost use Rattle.task_code.specs.Reading.{instrs_of};
 ghost use Rattle.subthread.specs.declared.task.Work.{Work as PlainWork};
@@ -39,19 +39,19 @@ fn idle_work(alloc: Global) -> Result<Arc<Work>, Fail> {
     Ok(Arc::new(alloc, work)?)
 }
 
-// Whether the first task has no code.
+// Whether the first task has no code, and walks are made once.
 #[tactic(auto, using(crate::proofs::Idle::none_there))]
 fn is_idle(work: &Work) -> bool
-    ensures { IsTrue result → instrs_of (code_of work.now.code).tasks 0 ≡ [] }
+    ensures { IsTrue result → (work.now.recheck ≡ None) × (instrs_of (code_of work.now.code).tasks 0 ≡ []) }
 {
-    work.code.instrs(0).is_empty()
+    !work.recheck.is_on() && work.code.instrs(0).is_empty()
 }
 
-// An attempt of the program's only subthread.
+// An attempt of the program's only subthread, from a place beyond its end: of that nothing is known, so it counts as heavy.
 fn start(alloc: Global, attempt: u32) -> Result<Task, AllocError>
     ensures pos { IfOk result (λ task. task.pos ≡ 0) }
     ensures attempt { IfOk result (λ task. task.attempt ≡ attempt) }
-    ensures fits { IfOk result (λ task. (work : PlainWork) → instrs_of (code_of work.code).tasks 0 ≡ [] → Fits work task) }
+    ensures fits { IfOk result (λ task. (work : PlainWork) → work.recheck ≡ None → instrs_of (code_of work.code).tasks 0 ≡ [] → Fits work task) }
 {
     let regs = Summed::plain(Seq::from_slice(alloc, &[0])?);
     Ok(Task {
@@ -62,7 +62,7 @@ fn start(alloc: Global, attempt: u32) -> Result<Task, AllocError>
             sync: SyncOp::Start,
             line: 0,
         },
-        at: At { task: 0, pc: 0 },
+        at: At { task: 0, pc: 1 },
         ctl: Seq::new(alloc),
         child: None,
         given: Given {
@@ -103,6 +103,7 @@ fn post<C: Crew, R: Threads + Sync>(
 ) -> Result<(), AllocError>
     requires ready { C.ready crew.old }
     requires fresh { ¬ Contains (C.posted crew.old) (0, attempt) }
+    requires sound { (C.work crew.old).recheck ≡ None }
     requires idle { instrs_of (code_of (C.work crew.old).code).tasks 0 ≡ [] }
     ensures ready { C.ready crew.new }
     ensures work { C.work crew.new ≡ C.work crew.old }
@@ -120,6 +121,7 @@ fn two_of_three<C: Crew, R: Threads + Sync>(
 ) -> Result<(Option<u32>, Option<u32>), AllocError>
     requires ready { C.ready crew.old }
     requires posted { C.posted crew.old ≡ [] }
+    requires sound { (C.work crew.old).recheck ≡ None }
     requires idle { instrs_of (code_of (C.work crew.old).code).tasks 0 ≡ [] }
 {
     post(rt, alloc, crew, 0)?;

@@ -6,7 +6,7 @@
 -- applied, what has to be looked at grows by its watch.
 use Rattle.std.proofs.Common.{◌≡◌, ◌⊎◌, ◌↔◌, inl, inr, ℕ, zero, suc, ◌+◌, ◌<◌, ◌≤◌, min, Bool, true, false, cond, nat_eq, not, IsTrue, List, [], ◌∷◌, ◌++◌, length, length-append, drop, get_or, slice_get, slice_set, Option, Some, None, IfSome, IfNone, refl, sym, ap, subst, ◌∙◌, arith}
 use Rattle.std.specs.Prelude.{is_some, unwrap_or}
-use Rattle.std.specs.Option.{option_or}
+use Rattle.std.specs.Option.{option_map, option_or}
 use Rattle.std.proofs.lemmas.Bool.{false≢true, both_ways, ne_eqb, eq-eqb, eqb-true, cases_eq, cases_lt}
 use Rattle.task_ast.proofs.IssuedTables.{get_last}
 use Rattle.dependence.specs.Conflict.{Conflict}
@@ -16,11 +16,11 @@ use Rattle.reorder_list.specs.declared.entry.State.TheVariants.{Waiting}
 use Rattle.reorder_list.specs.declared.marks.Marks.{Marks}
 use Rattle.reorder_list.specs.declared.marks.Watch.{Watch}
 use Rattle.reorder_list.specs.declared.touched.Touched.{Touched}
-use Rattle.reorder_list.specs.Entries.{StandFrom, first_position, IsInRow, ComesNext, entry_at, is_waiting, is_applied, with_change}
+use Rattle.reorder_list.specs.Entries.{StandFrom, first_position, IsInRow, ComesNext, entry_at, is_waiting, is_applied, out_entry, with_change}
 use Rattle.reorder_list.specs.Places.{IsPlaceOf, IsKept}
 use Rattle.reorder_list.specs.Runnable.{AllLetPass, IsRunnable, IsFirstRunnable, NoneRunnable}
 use Rattle.reorder_list.specs.Touching.{IsMarked, KeepsMarks, IsClearPast}
-use Rattle.reorder_list.specs.Watched.{HoldsUp, IsReady, watch_at, IsHeldUp, IsLooked, AreLooked, AreAsleep, IsWider, AreWider, Below, AllApplied, AreMarks, IsClear, AreClear, AllTouched, waking, narrowed, unknown_in, IsUpheld}
+use Rattle.reorder_list.specs.Watched.{HoldsUp, IsReady, watch_at, IsHeldUp, IsLooked, AreLooked, AreAsleep, IsWider, AreWider, Below, AllApplied, AreMarks, IsClear, AreClear, AllTouched, waking, narrowed, passed, past, unknown_in, IsUpheld}
 use Rattle.reorder_list.proofs.Rows.{before-first, read-at, next-is, row-push}
 use Rattle.reorder_list.proofs.Readiness.{one-entry, waits-is, applied-is, read-there, read-position}
 use Rattle.reorder_list.proofs.Changes.{KeepsPosition, changed_where, changed, same-position, pushed, from-first, same-length}
@@ -754,6 +754,65 @@ upheld-kept entries watches marks low touched unknown test change news keeps loc
     fewer is kept upheld =
     upheld-changed entries watches marks low touched unknown unknown test change news keeps locks waiting holding sooner less later whole
     fewer (upheld.unknowns ∙ (sym (unknown-same test change entries known) ∙ ap unknown_in (sym is))) is kept upheld
+
+passed-below : (mark p q : ℕ) → q < passed mark p → (q ≡ p → ⊥) → q < mark
+passed-below mark p q l other = go (nat_eq mark p) refl l
+  where
+    go : (b : Bool) → nat_eq mark p ≡ b → q < cond b (min (mark + 1) 4294967295) mark → q < mark
+    go true is below = let same = eqb-true mark p is in omega arith
+    go false is below = below
+
+outside-below : (low last p q : ℕ) → (q ≡ p → ⊥) → (q < passed low p) ⊎ (last < q) → (q < low) ⊎ (last < q)
+outside-below low last p q other (inl below) = inl (passed-below low p q below other)
+outside-below low last p q other (inr after) = inr after
+
+-- what begins to be looked at at a position that does not wait may begin after it
+asleep-past : (entries : List Entry) (watches : List Watch) (marks : Marks) (p : ℕ)
+    → ((e : Entry) → entry_at entries p ≡ Some e → e.state ≡ Waiting → ⊥)
+    → AreAsleep entries watches marks.fresh marks.low marks.last
+    → AreAsleep entries watches (passed marks.fresh p) (passed marks.low p) marks.last
+asleep-past entries watches marks p busy asleep = λ q l outside. go q l outside (nat_eq q p) refl
+  where
+    go : (q : ℕ) → q < passed marks.fresh p → (q < passed marks.low p) ⊎ (marks.last < q) → (b : Bool) → nat_eq q p ≡ b
+        → IsLooked entries watches q
+    go q l outside true is = λ e there waits. absurd (busy e (subst (λ k. entry_at entries k ≡ Some e) (eqb-true q p is) there) waits)
+    go q l outside false is =
+        let other : (q ≡ p → ⊥) = λ same. false≢true (sym is ∙ eq-eqb q p same) in
+        asleep q (passed-below marks.fresh p q l other) (outside-below marks.low marks.last p q other outside)
+
+-- and all else stays
+pub upheld-past : (entries : List Entry) (watches : List Watch) (marks : Marks) (touched : Touched) (unknown p : ℕ)
+    → ((e : Entry) → entry_at entries p ≡ Some e → e.state ≡ Waiting → ⊥)
+    → IsUpheld entries watches marks touched unknown → IsUpheld entries watches (past p marks) touched unknown
+upheld-past entries watches marks touched unknown p busy upheld =
+    record {
+      kept = upheld.kept;
+      many = upheld.many;
+      marked = record {
+        asleep = asleep-past entries watches marks p busy upheld.marked.asleep;
+        all_applied = upheld.marked.all_applied;
+        clear = upheld.marked.clear;
+      };
+      touches = upheld.touches;
+      unknowns = upheld.unknowns;
+    }
+
+-- an entry that is out does not wait
+pub out-busy : (entries news : List Entry) (p : ℕ) → news ≡ with_change (λ q. nat_eq q p) out_entry entries
+    → (e : Entry) → entry_at news p ≡ Some e → e.state ≡ Waiting → ⊥
+out-busy entries news p is e there waits = go (entry_at entries p) refl
+  where
+    found : option_map (changed_where (nat_eq p p) out_entry) (entry_at entries p) ≡ Some e
+    found = sym (changed (λ q. nat_eq q p) out_entry entries p (λ x. refl)) ∙ ap (λ es. entry_at es p) (sym is) ∙ there
+
+    go : (o : Option Entry) → entry_at entries p ≡ o → ⊥
+    go None at = absurd (cc (ap (option_map (changed_where (nat_eq p p) out_entry)) (sym at) ∙ found))
+    go (Some x) at =
+        let here = ap (option_map (changed_where (nat_eq p p) out_entry)) (sym at) ∙ found in
+        let out : Some (out_entry x) ≡ Some e = rw (eq-eqb p p refl) at here in
+        let same : out_entry x ≡ e = cc out in
+        let clash : (out_entry x).state ≡ Waiting = ap (λ (y : Entry). y.state) same ∙ waits in
+        absurd (cc clash)
 
 drop-length : (watches : List Watch) (n : ℕ) → length watches ≡ suc n → length (drop 1 watches) ≡ n
 drop-length [] n is = absurd (omega arith)

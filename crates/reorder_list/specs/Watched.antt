@@ -1,5 +1,5 @@
 -- What the list keeps so that it need not look at all entries for one that is runnable.
-use Rattle.std.specs.Prelude.{◌≡◌, ◌⊎◌, ◌<◌, ◌≤◌, min, max, ℕ, Bool, true, false, not, cond, nat_eq, List, [], ◌∷◌, length, Option, Some, None, is_some, count_by}
+use Rattle.std.specs.Prelude.{◌≡◌, ◌⊎◌, ◌+◌, ◌<◌, ◌≤◌, min, max, ℕ, Bool, true, false, not, cond, nat_eq, List, [], ◌∷◌, length, Option, Some, None, is_some, count_by}
 use Rattle.dependence.specs.Conflict.{Conflict}
 use Rattle.reorder_list.specs.declared.entry.Entry.{Entry}
 use Rattle.reorder_list.specs.declared.entry.State.{State}
@@ -87,6 +87,14 @@ Below test answer entries below = (q : ℕ) (e : Entry) → q < below → entry_
 -- each entry before the position is applied
 abbrev pub AllApplied : List Entry → ℕ → Type 0
 AllApplied entries whole = Below is_applied true entries whole
+
+-- a mark, or the next position where it is this one
+abbrev pub passed : (mark p : ℕ) → ℕ
+passed mark p = cond (nat_eq mark p) (min (mark + 1) 4294967295) mark
+
+-- what begins at the position to be looked at begins after it
+abbrev pub past : (p : ℕ) → Marks → Marks
+past p marks = record marks { fresh = passed marks.fresh p; low = passed marks.low p }
 
 -- what the position of this watch held up has to be looked at again
 abbrev pub waking : Watch → Marks → Marks

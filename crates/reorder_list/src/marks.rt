@@ -1,7 +1,7 @@
 // Where entries have to be looked at again for one that is runnable.
 
 ghost use Rattle.std.specs.Prelude.{◌≡◌, min, max, cond, None};
-ghost use Rattle.reorder_list.specs.Watched.{waking, narrowed};
+ghost use Rattle.reorder_list.specs.Watched.{waking, narrowed, passed, past};
 
 use gp_base::Pos;
 
@@ -40,15 +40,26 @@ fn later_of(a: Pos, b: Pos) -> Pos
     Pos(a.0.max(b.0))
 }
 
-/// The watch of an entry at this position of which nothing was looked at. No other position after `until` and before
-/// it is in conflict with it by locks.
-pub fn new_watch(p: Pos, until: Pos) -> Watch
-    ensures { result ≡ record { by = None; from = p; to = p; until = until } }
+// A position, or the next one where it is this one.
+fn passed(q: Pos, p: Pos) -> Pos
+    ensures { result ≡ passed q p }
+{
+    if q.0 == p.0 {
+        Pos(q.0.saturating_add(1))
+    } else {
+        q
+    }
+}
+
+/// The watch of an entry of which nothing was looked at: it was found to hold up none. No other position after `until`
+/// and before it is in conflict with it by locks.
+pub fn new_watch(until: Pos) -> Watch
+    ensures { result ≡ record { by = None; from = 4294967295; to = 0; until = until } }
 {
     Watch {
         by: None,
-        from: p,
-        to: p,
+        from: Pos(u32::MAX),
+        to: Pos(0),
         until,
     }
 }
@@ -105,6 +116,18 @@ impl Marks {
             low: self.low,
             last: self.last,
             whole: earlier_of(self.whole, p),
+        }
+    }
+
+    /// The entry at the position waits no longer, so what begins there to be looked at begins after it.
+    pub fn past(self, p: Pos) -> Marks
+        ensures { result ≡ past p self }
+    {
+        Marks {
+            fresh: passed(self.fresh, p),
+            low: passed(self.low, p),
+            last: self.last,
+            whole: self.whole,
         }
     }
 

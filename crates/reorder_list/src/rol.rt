@@ -166,7 +166,7 @@ impl Rol {
         self.unknown += usize::from(entry.foot.is_none());
         let until = Pos(self.touched.last(&entry.locks));
         self.touched.mark(&entry.locks, entry.pos.0);
-        self.watches.push_back_reserved(new_watch(entry.pos, until));
+        self.watches.push_back_reserved(new_watch(until));
         self.entries.push_back_reserved(entry);
     }
 
@@ -225,6 +225,7 @@ impl Rol {
         ensures spare { self.new.spare ≡ self.old.spare }
     {
         if let Some(place) = place_of(&self.entries, p) {
+            self.marks = self.marks.past(p);
             send_entry(&mut self.entries[place]);
         }
     }

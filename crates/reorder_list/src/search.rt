@@ -258,6 +258,9 @@ fn first_woken(
     ensures len { deque_len watches.new ≡ deque_len watches.old }
     ensures capacity { deque_capacity watches.new ≡ deque_capacity watches.old }
 {
+    if marks.last.0 < marks.low.0 {
+        return None;
+    }
     let follows = from.0 <= marks.low.0;
     let start = place_from(entries, Pos(from.0.max(marks.low.0)));
     let behind = place_behind(entries, marks.last).min(place_from(entries, marks.fresh));

@@ -2,7 +2,7 @@
 -- it names when it runs: first for a data statement, then for a step, which stays in its task, and so for a body. So a
 -- task without bundles fits where its code names none, and one with the bundle of the first lock where it names the
 -- first cell alone.
-use Rattle.std.proofs.Common.{◌≡◌, ℕ, zero, suc, ◌+◌, ◌-◌, ◌<◌, ◌≤◌, Bool, true, false, ◌||◌, nat_eq, cond, List, [], ◌∷◌, ◌++◌, length, map, get_or, Option, Some, None, refl, sym, ap, ◌∙◌, subst, arith, option_map, option_and_then, unwrap_or}
+use Rattle.std.proofs.Common.{◌≡◌, ℕ, zero, suc, ◌+◌, ◌-◌, ◌<◌, ◌≤◌, Bool, true, false, ◌||◌, nat_eq, cond, List, [], ◌∷◌, ◌++◌, length, map, get_or, Option, Some, None, IfSome, refl, sym, ap, ◌∙◌, subst, arith, option_map, option_and_then, unwrap_or}
 use Rattle.std.specs.Prelude.{ℤ, pos, negsuc, nat_lt, slice_get, slice_set, All}
 use Rattle.std.specs.List.{list_any}
 use Rattle.std.specs.List.Sorted.{IsStrictlyIncreasing}
@@ -23,6 +23,7 @@ use Rattle.subthread.specs.declared.task.Work.{Work}
 use Rattle.subthread.specs.declared.task.Task.{Task}
 use Rattle.task_ast.specs.SyncOps.{IsNumbered}
 use Rattle.subthread.specs.Tasks.{actions_from, place_of, under_of, Fits}
+use Rattle.subthread.specs.meaning.Flaws.{Spares}
 use Rattle.task_ast.specs.meaning.Under.{under_lock, is_under}
 use Rattle.record_store.specs.declared.given.Bundle.{Bundle}
 use Rattle.record_store.specs.Lent.{lock_in}
@@ -297,7 +298,8 @@ without_cells work task none numbered low = record {
   numbered = numbered;
   within =
       names_only 0 (is_under (under_of work) (map lock_in task.given.bundles))
-      (λ c less. absurd (omega arith)) work task.begins.sync task.child (place_of task) low;
+      (λ c less. absurd (omega arith)) work task.begins.sync task.child (place_of task) low.1;
+  spared = subst (λ recheck. IfSome recheck Spares) (sym low.0) tt;
 }
 
 -- a task with the bundle of the first lock, under which stands the first cell alone
@@ -312,7 +314,8 @@ one_cell work task b one first size alone numbered low = record {
   numbered = numbered;
   within = names_only 1 (is_under (under_of work) (map lock_in task.given.bundles))
       (λ c less. subst (λ (bundles : List Bundle). is_under (under_of work) (map lock_in bundles) c ≡ true) (sym one)
-      (there c (omega (arith, less)))) work task.begins.sync task.child (place_of task) low;
+      (there c (omega (arith, less)))) work task.begins.sync task.child (place_of task) low.1;
+  spared = subst (λ recheck. IfSome recheck Spares) (sym low.0) tt;
 }
   where
     cells_are : under_lock (under_of work) b.lock ≡ 0 ∷ []

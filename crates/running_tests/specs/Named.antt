@@ -1,5 +1,5 @@
 -- Code that names only record cells below a number.
-use Rattle.std.specs.Prelude.{ℕ, ◌+◌, ◌≤◌, List, [], ◌∷◌, ⊤}
+use Rattle.std.specs.Prelude.{◌≡◌, ℕ, ◌+◌, ◌≤◌, List, [], ◌∷◌, None, ⊤}
 use Rattle.lock_checker.specs.declared.cells.CellRange.{CellRange}
 use Rattle.task_code.specs.Flat.{code_of}
 use Rattle.task_code.specs.Reading.{instrs_of}
@@ -33,9 +33,9 @@ abbrev pub AllBelow : (most : ℕ) → List Instr → Type 0
 AllBelow most [] = ⊤
 AllBelow most (At line d ∷ instrs) = DoesBelow most d × AllBelow most instrs
 
--- so does the code of a task of a work
+-- so does the code of a task of a work whose walks are made once
 abbrev pub NamesBelow : (most : ℕ) → Work → (task : ℕ) → Type 0
-NamesBelow most work task = AllBelow most (instrs_of (code_of work.code).tasks task)
+NamesBelow most work task = (work.recheck ≡ None) × AllBelow most (instrs_of (code_of work.code).tasks task)
 
 -- a task without bundles fits each work whose code for it names no cells
 abbrev pub FitsWithoutCells : Task → Type 0

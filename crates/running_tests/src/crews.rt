@@ -1,5 +1,5 @@
 // Crews over tasks of one program: each hands back what was posted, once, in an order of its own.
-ghost use Rattle.std.specs.Prelude.{◌≡◌, [], ◌∷◌, ◌++◌, All, Contains, IfOk, OnOk};
+ghost use Rattle.std.specs.Prelude.{◌≡◌, ◌<◌, ◌^◌, [], ◌∷◌, ◌++◌, length, All, Contains, IfOk, OnOk};
 ghost use Rattle.subthread.specs.Tasks.{Fits};
 ghost use Rattle.running_tests.specs.Named.{NamesBelow, FitsWithoutCells};
 ghost use Rattle.crew.specs.Out.{AreRuns};
@@ -20,14 +20,27 @@ use steal_crew::{StealCrew, run_steal};
 use subthread::{Done, Recheck, Task, Work};
 use task_ast::{Next, SyncOp};
 
-// What the tasks of the program run under in which two threads add to one total.
-fn adding(alloc: Global) -> Result<Work, Fail> {
+// Two threads add to one total. `main` comes to its first fork past a loop that it passes by, so a run of its beginning
+// counts as heavy as long as there was none.
+const LOOPING: &[u8] = b"lock tally[1]; record total[1] by tally;
+task add(n) { var $t; lock tally[0]; read total[0] into $t; write total[0] = $t + n; unlock tally[0]; }
+task main() { while self == 1 { } fork add(3); fork add(4); join 1; join 2; }";
+
+// What the tasks of such a program run under.
+fn work_of(alloc: Global, program: &[u8]) -> Result<Work, Fail>
+    requires { length program.now < 2 ^ 32 }
+{
     Ok(Work {
-        code: code_of(alloc, ADD)?,
+        code: code_of(alloc, program)?,
         feeds: Seq::new(alloc),
         turns: 100,
         recheck: Recheck::once(),
     })
+}
+
+// What the tasks of the program run under that passes a loop by.
+fn adding(alloc: Global) -> Result<Work, Fail> {
+    work_of(alloc, LOOPING)
 }
 
 // An attempt of the program's first subthread: `main` begins, and runs to its fork in line 3.
@@ -309,7 +322,7 @@ fn worths(mean_steps: &MeanSteps, task: &Task, tasks: &[Task]) -> [u32; 5] {
     let new_of_two = mean_steps.workers(tasks, 2);
     mean_steps.note(task, 5);
     let light = mean_steps.workers(tasks, 64);
-    mean_steps.note(task, 1_000_000);
+    mean_steps.note(task, 4_000_000);
     let heavy = mean_steps.workers(tasks, 64);
     for _ in 0..20 {
         mean_steps.note(task, 5);
@@ -328,9 +341,9 @@ fn are_worth(alloc: Global, work: &Work) -> Result<bool, AllocError> {
     Ok(told == [3, 2, 1, 3, 1])
 }
 
-// New tasks are worth as many workers as they are, and as may be had; light ones are worth one. A heavy run weighs an
-// eighth: 125,000 steps a task, so 250,000 beside those of the longest, which are worth more workers than there are
-// tasks.
+// New tasks that may come to a loop are worth as many workers as they are, and as may be had; light ones are worth one. A
+// heavy run weighs an eighth: 500,000 steps a task, so 1,000,000 beside those of the longest, which are worth more workers
+// than there are tasks.
 #[test]
 fn light_tasks_are_worth_one_worker(rt: HostRuntime) -> Result<(), Fail> {
     let alloc = rt.alloc();
@@ -338,4 +351,19 @@ fn light_tasks_are_worth_one_worker(rt: HostRuntime) -> Result<(), Fail> {
     let is_told = are_worth(alloc, &work);
     drop(work);
     passes(is_told)
+}
+
+// How many workers three tasks are worth that come to a fork without a loop before it, where none has run.
+fn worth_of_straight(alloc: Global, work: &Work) -> Result<u32, AllocError> {
+    let tasks = starts(alloc, 3)?;
+    Ok(MeanSteps::new(alloc, work).workers(&tasks, 64))
+}
+
+#[test]
+fn new_tasks_without_a_loop_are_worth_one_worker(rt: HostRuntime) -> Result<(), Fail> {
+    let alloc = rt.alloc();
+    let work = work_of(alloc, ADD)?;
+    let worth = worth_of_straight(alloc, &work);
+    drop(work);
+    passes(Ok(worth? == 1))
 }

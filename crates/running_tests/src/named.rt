@@ -66,9 +66,9 @@ fn all_below(most: u64, instrs: &[Instr]) -> bool
     true
 }
 
-/// Whether the code of a task names only record cells below this one.
+/// Whether the code of a task names only record cells below this one, and walks are made once.
 pub fn names_below(work: &Work, task: u32, most: u64) -> bool
     ensures { IsTrue result → NamesBelow most work.now task }
 {
-    all_below(most, work.code.instrs(task))
+    !work.recheck.is_on() && all_below(most, work.code.instrs(task))
 }

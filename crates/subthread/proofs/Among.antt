@@ -1,12 +1,13 @@
 -- Cells with old values lie in the bundles.
-use Rattle.std.proofs.Common.{◌≡◌, ℕ, zero, suc, Bool, true, false, ◌||◌, List, [], ◌∷◌, map, get_or, Some, nat_eq, refl, sym, ap, ◌∙◌}
+use Rattle.std.proofs.Common.{◌≡◌, ℕ, zero, suc, Bool, true, false, ◌||◌, List, [], ◌∷◌, map, get_or, Option, Some, None, is_some, nat_eq, refl, sym, ap, ◌∙◌}
 use Rattle.std.specs.Prelude.{ℤ, All, slice_get}
 use Rattle.std.specs.List.{list_any}
 use Rattle.std.proofs.lemmas.Bool.{false≢true, eq-eqb, eqb-true}
 use Rattle.task_ast.specs.meaning.Under.{under_lock, is_under}
 use Rattle.record_store.specs.declared.given.Bundle.{Bundle}
 use Rattle.record_store.specs.Lent.{lock_in, put_back}
-use Rattle.subthread.specs.inner.Places.{AreHandy, AllLack}
+use Rattle.subthread.specs.inner.Places.{AreHandy, AllLack, IsFoundAt}
+use Rattle.subthread.proofs.Standing.{stands_not}
 use Rattle.subthread.proofs.Struck.{found_at}
 
 pub same_locks_back : (under : List (List ℕ)) (old : List (ℕ × ℤ)) (bundles : List Bundle)
@@ -72,3 +73,14 @@ pub under_now : (under : List (List ℕ)) (old : List (ℕ × ℤ)) (c : ℕ) (b
     → is_under under (map lock_in (put_back under old bundles)) c ≡ true → AllLack under c bundles → ⊥
 under_now under old c bundles is =
     under_there under c bundles (ap (λ locks. is_under under locks c) (sym (same_locks_back under old bundles)) ∙ is)
+
+-- a cell that is found among what is left stands under one of the locks
+pub found_under : (under : List (List ℕ)) (old : List (ℕ × ℤ)) (c : ℕ) (bundles : List Bundle) (o : Option (ℕ × ℕ))
+    → IsFoundAt under bundles c o → is_some o ≡ true → is_under under (map lock_in (put_back under old bundles)) c ≡ true
+found_under under old c bundles None found some = absurd (false≢true some)
+found_under under old c bundles (Some at) found some =
+    ap (λ locks. is_under under locks c) (same_locks_back under old bundles) ∙ go (is_under under (map lock_in bundles) c) refl
+  where
+    go : (b : Bool) → is_under under (map lock_in bundles) c ≡ b → b ≡ true
+    go true is = refl
+    go false is = absurd (stands_not under c at.0 at.1 bundles found (not_under under c bundles is))

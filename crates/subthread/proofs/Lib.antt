@@ -1,3 +1,4 @@
+pub mod Agreed
 pub mod Among
 pub mod Arms
 pub mod Beginnings

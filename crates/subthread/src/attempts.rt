@@ -1,17 +1,20 @@
 // A task that is walked twice, and the two walks compared.
-ghost use Rattle.std.specs.Prelude.{◌≡◌, length, map, All, IsTrue, IfOk, IfErr};
+ghost use Rattle.std.specs.Prelude.{◌≡◌, ◌⊎◌, length, map, All, IsTrue, IfOk, IfErr, IfSome};
+ghost use Rattle.std.specs.Bool.{Decides};
 ghost use Rattle.std.specs.List.Sorted.{IsStrictlyIncreasing};
 ghost use Rattle.task_ast.specs.meaning.Under.{under_lock};
 ghost use Rattle.record_store.specs.Lent.{lock_in};
 ghost use Rattle.record_store.specs.declared.given.Bundle.{Bundle as BundleThere};
 ghost use Rattle.task_ast.specs.SyncOps.{IsNumbered};
 ghost use Rattle.subthread.specs.Tasks.{with_bundles, under_of};
-ghost use Rattle.subthread.specs.inner.Running.{IsTask, AreAtHand};
+ghost use Rattle.subthread.specs.meaning.Flaws.{Spares};
+ghost use Rattle.subthread.specs.inner.Running.{IsTask, AreAtHand, Holds};
 ghost use Rattle.subthread.specs.inner.Leaving.{IsGroundOf, actions_at};
 ghost use Rattle.subthread.specs.inner.Hand.{written_to};
-ghost use Rattle.subthread.specs.inner.Attempts.{cursor_at, IsWalk, IsSame, IsSameControl, IsSameData};
+ghost use Rattle.subthread.specs.inner.Attempts.{cursor_at, IsWalk, IsSame, IsSameControl, IsSameData, made_of, made_in, Makes, IsAgreed};
 
 use crate::cells::{Change, sum_of};
+use crate::erring::erred;
 use crate::ground::{Cursor, Doing, Ground};
 use crate::run::{cells_of, walk};
 use crate::{Disturbance, Recheck, Task, Work};
@@ -45,13 +48,13 @@ pub struct Left {
 }
 
 fn same_numbers(a: &[i64], b: &[i64]) -> bool
-    ensures { IsTrue result → a.now ≡ b.now }
+    ensures { Decides result (a.now ≡ b.now) }
 {
     a == b
 }
 
 fn same_lines(a: &[Nums], b: &[Nums]) -> bool
-    ensures { IsTrue result → a.now ≡ b.now }
+    ensures { Decides result (a.now ≡ b.now) }
 {
     if a.len() != b.len() {
         return false;
@@ -65,19 +68,19 @@ fn same_lines(a: &[Nums], b: &[Nums]) -> bool
 }
 
 fn same_locs(a: &[Loc], b: &[Loc]) -> bool
-    ensures { IsTrue result → a.now ≡ b.now }
+    ensures { Decides result (a.now ≡ b.now) }
 {
     a == b
 }
 
 fn same_changes(a: &[Change], b: &[Change]) -> bool
-    ensures { IsTrue result → a.now ≡ b.now }
+    ensures { Decides result (a.now ≡ b.now) }
 {
     a == b
 }
 
 fn same_sync(a: &SyncOp, b: &SyncOp) -> bool
-    ensures { IsTrue result → a.now ≡ b.now }
+    ensures { Decides result (a.now ≡ b.now) }
 {
     match (a, b) {
         (SyncOp::Start, SyncOp::Start) => true,
@@ -102,19 +105,19 @@ fn same_sync(a: &SyncOp, b: &SyncOp) -> bool
 }
 
 fn same_cursor(a: &Cursor, b: &Cursor) -> bool
-    ensures { IsTrue result → a.now ≡ b.now }
+    ensures { Decides result (a.now ≡ b.now) }
 {
     a.pc == b.pc && same_numbers(a.ctl.as_slice(), b.ctl.as_slice())
 }
 
 fn same_next(a: &Next, b: &Next) -> bool
-    ensures { IsTrue result → a.now ≡ b.now }
+    ensures { Decides result (a.now ≡ b.now) }
 {
     a.line == b.line && same_sync(&a.sync, &b.sync)
 }
 
 fn same_foot(a: &Footprint, b: &Footprint) -> bool
-    ensures { IsTrue result → a.now ≡ b.now }
+    ensures { Decides result (a.now ≡ b.now) }
 {
     same_locs(a.reads.as_slice(), b.reads.as_slice())
         && same_locs(a.writes.as_slice(), b.writes.as_slice())
@@ -122,7 +125,7 @@ fn same_foot(a: &Footprint, b: &Footprint) -> bool
 
 // Whether a walk came to where another one did, in as many steps, by the same locations.
 fn same_control<'a>(walk: &Walk<'a>, left: &Left) -> bool
-    ensures { IsTrue result → IsSameControl walk.now left.now }
+    ensures { Decides result (IsSameControl walk.now left.now) }
 {
     walk.doing.steps == left.steps
         && same_cursor(&walk.cursor, &left.cursor)
@@ -132,7 +135,7 @@ fn same_control<'a>(walk: &Walk<'a>, left: &Left) -> bool
 
 // Whether a walk left the same registers and lines as another one.
 fn same_data<'a>(doing: &Doing<'a>, left: &Left) -> bool
-    ensures { IsTrue result → IsSameData doing.now left.now }
+    ensures { Decides result (IsSameData doing.now left.now) }
 {
     same_numbers(doing.regs.as_slice(), left.regs.as_slice())
         && same_numbers(doing.child.as_slice(), left.child.as_slice())
@@ -202,6 +205,33 @@ fn attempt<'a>(
     }
 }
 
+// The walk of this number of a task, as `attempt`, on a machine with the flaws that the work tells of.
+fn attempt_at<'a>(
+    alloc: Global,
+    work: &'a Work,
+    task: &Task,
+    ground: &Ground,
+    bundles: Seq<Bundle>,
+    steps: &mut u64,
+    number: u32,
+) -> Result<Walk<'a>, Seq<Bundle>>
+    requires numbered { IsNumbered task.now.begins.sync }
+    requires is { IsGroundOf work.now (with_bundles ground.now.bundles.value task.now) ground.now }
+    requires task { IsTask ground.now }
+    requires came { bundles ≡ ground.now.bundles.value }
+    requires rising { IsStrictlyIncreasing (map lock_in ground.now.bundles.value) }
+    requires sizes { All (λ (b : BundleThere). length b.cells ≡ length (under_lock (under_of work.now) b.lock)) ground.now.bundles.value }
+    requires named { AreAtHand ground.now (actions_at work.now (with_bundles ground.now.bundles.value task.now) (cursor_at task.now)) }
+    ensures makes { IfOk result (λ walk. Makes work.now (with_bundles ground.now.bundles.value task.now) number (made_of walk)) }
+    ensures holds { IfOk result (λ walk. Holds ground.now walk.doing) }
+    ensures back { IfErr result (λ back. back ≡ ground.now.bundles.value) }
+{
+    match work.recheck.flaw_of(task.pos, task.attempt, number) {
+        Some(made) => erred(alloc, work, bundles, made),
+        None => attempt(alloc, work, task, ground, bundles, steps),
+    }
+}
+
 /// The bundles with which a walk began, as they came.
 pub fn given_back<'a>(walk: Walk<'a>) -> Seq<Bundle>
     ensures { result ≡ walk.entry.doing.cells.came }
@@ -211,23 +241,20 @@ pub fn given_back<'a>(walk: Walk<'a>) -> Seq<Bundle>
     taken_back(doing)
 }
 
-// The summary of a walk with a bit turned, where a test says so.
-fn disturbed(recheck: &Recheck, steps: u64, changes: &mut [Change]) -> u64 {
-    if let Some(change) = changes.first_mut() {
-        if recheck.disturbs(Disturbance::OldValue) {
-            change.old ^= 1;
-        }
-    }
-    if recheck.disturbs(Disturbance::Steps) {
-        steps ^ 1
-    } else {
-        steps
+// Turns a bit of the summary of a walk, where a test says so: of what no walk hands on.
+fn disturb(recheck: &Recheck, changes: &mut [Change])
+    ensures { map written_to changes.new ≡ map written_to changes.old }
+{
+    if !changes.is_empty() && recheck.disturbs(Disturbance::OldValue) {
+        changes[0].old ^= 1;
     }
 }
 
-// What is kept of a walk with this summary, and the bundles as they came.
-fn left_of<'a>(walk: Walk<'a>, steps: u64, changes: Vec<Change>) -> (Seq<Bundle>, Left)
-    ensures { result.0 ≡ walk.entry.doing.cells.came }
+// What is kept of a walk that made these changes, and the bundles as they came.
+fn left_of<'a>(walk: Walk<'a>, changes: Vec<Change>) -> (Seq<Bundle>, Left)
+    requires { map written_to changes.items ≡ walk.doing.cells.written }
+    ensures came { result.0 ≡ walk.entry.doing.cells.came }
+    ensures left { made_in result.1 ≡ made_of walk.entry }
 {
     let Walk {
         cursor,
@@ -240,7 +267,7 @@ fn left_of<'a>(walk: Walk<'a>, steps: u64, changes: Vec<Change>) -> (Seq<Bundle>
         child,
         cells,
         lines,
-        ..
+        steps,
     } = doing;
     let left = Left {
         cursor,
@@ -265,14 +292,15 @@ fn part<'a>(
     walk: Walk<'a>,
 ) -> Result<(Seq<Bundle>, Left), Seq<Bundle>>
     ensures came { IfOk result (λ parts. parts.0 ≡ walk.entry.doing.cells.came) }
+    ensures left { IfOk result (λ parts. made_in parts.1 ≡ made_of walk.entry) }
     ensures back { IfErr result (λ bundles. bundles ≡ walk.entry.doing.cells.came) }
 {
     let Ok(mut changes) = walk.doing.cells.changes(alloc) else {
         return Err(given_back(walk));
     };
-    let steps = disturbed(&work.recheck, walk.doing.steps, &mut changes);
+    disturb(&work.recheck, &mut changes);
     if walk.doing.cells.is_kept(sum, &changes) {
-        Ok(left_of(walk, steps, changes))
+        Ok(left_of(walk, changes))
     } else {
         work.recheck.note(task.pos);
         work.recheck.note_disagreed(task.pos);
@@ -280,15 +308,11 @@ fn part<'a>(
     }
 }
 
-// Whether a walk, which made these changes, left what another one did, and no other cells.
-fn is_like_by<'a>(changes: &[Change], sum: i64, walk: &Walk<'a>, left: &Left) -> bool
-    requires { map written_to changes.now ≡ walk.now.doing.cells.written }
-    ensures { IsTrue result → IsSame walk.now left.now }
+// Whether a walk, which made these changes, left what another one did.
+fn is_like_by<'a>(changes: &[Change], walk: &Walk<'a>, left: &Left) -> bool
+    ensures { Decides result (IsSame changes.now walk.now left.now) }
 {
-    same_control(walk, left)
-        && same_data(&walk.doing, left)
-        && same_changes(changes, &left.changes)
-        && walk.doing.cells.is_kept(sum, changes)
+    same_control(walk, left) && same_data(&walk.doing, left) && same_changes(changes, &left.changes)
 }
 
 // Whether a walk left what another one did, and no other cells. The error is that memory is out.
@@ -299,13 +323,13 @@ fn is_like<'a>(
     walk: &Walk<'a>,
     left: &Left,
 ) -> Result<bool, AllocError>
-    ensures { IfOk result (λ same. IsTrue same → IsSame walk.now left.now) }
+    ensures { IfOk result (λ same. IsTrue same → made_of walk.now ≡ made_in left.now) }
 {
     if recheck.disturbs(Disturbance::Refusal) {
         return Err(AllocError);
     }
     let changes = walk.doing.cells.changes(alloc)?;
-    Ok(is_like_by(&changes, sum, walk, left))
+    Ok(is_like_by(&changes, walk, left) && walk.doing.cells.is_kept(sum, &changes))
 }
 
 // Whether a walk left what one of these two did. The error is that memory is out.
@@ -316,7 +340,9 @@ fn is_like_either<'a>(
     walk: &Walk<'a>,
     one: &Left,
     two: &Left,
-) -> Result<bool, AllocError> {
+) -> Result<bool, AllocError>
+    ensures { IfOk result (λ same. IsTrue same → (made_of walk.now ≡ made_in one.now) ⊎ (made_of walk.now ≡ made_in two.now)) }
+{
     Ok(is_like(alloc, recheck, sum, walk, one)? || is_like(alloc, recheck, sum, walk, two)?)
 }
 
@@ -332,6 +358,7 @@ fn agreed<'a>(
     two: &Left,
 ) -> Result<Walk<'a>, Seq<Bundle>>
     ensures walk { IfOk result (λ walk. walk ≡ third.entry) }
+    ensures like { IfOk result (λ walk. (made_of walk ≡ made_in one.now) ⊎ (made_of walk ≡ made_in two.now)) }
     ensures back { IfErr result (λ bundles. bundles ≡ third.entry.doing.cells.came) }
 {
     match is_like_either(alloc, &work.recheck, sum, &third, one, two) {
@@ -373,15 +400,18 @@ fn decided<'a>(
     requires numbered { IsNumbered task.now.begins.sync }
     requires is { IsGroundOf work.now (with_bundles ground.now.bundles.value task.now) ground.now }
     requires task { IsTask ground.now }
-    requires came { second.doing.cells.came ≡ ground.now.bundles.value }
+    requires holds { Holds ground.now second.doing }
     requires rising { IsStrictlyIncreasing (map lock_in ground.now.bundles.value) }
     requires sizes { All (λ (b : BundleThere). length b.cells ≡ length (under_lock (under_of work.now) b.lock)) ground.now.bundles.value }
     requires named { AreAtHand ground.now (actions_at work.now (with_bundles ground.now.bundles.value task.now) (cursor_at task.now)) }
-    ensures walk { IfOk result (IsWalk work.now (with_bundles ground.now.bundles.value task.now) ground.now) }
+    requires first { Makes work.now (with_bundles ground.now.bundles.value task.now) 0 (made_in one.now) }
+    requires second { Makes work.now (with_bundles ground.now.bundles.value task.now) 1 (made_of second) }
+    ensures agreed { IfOk result (λ walk. IsAgreed work.now (with_bundles ground.now.bundles.value task.now) (made_of walk)) }
+    ensures holds { IfOk result (λ walk. Holds ground.now walk.doing) }
     ensures back { IfErr result (λ back. back ≡ ground.now.bundles.value) }
 {
     let (bundles, two) = part(alloc, work, task, sum, second)?;
-    match attempt(alloc, work, task, ground, bundles, steps) {
+    match attempt_at(alloc, work, task, ground, bundles, steps, 2) {
         Ok(third) => {
             let walk = agreed(alloc, work, task, sum, third, one, &two);
             drop(two);
@@ -413,10 +443,12 @@ fn again<'a>(
     requires rising { IsStrictlyIncreasing (map lock_in ground.now.bundles.value) }
     requires sizes { All (λ (b : BundleThere). length b.cells ≡ length (under_lock (under_of work.now) b.lock)) ground.now.bundles.value }
     requires named { AreAtHand ground.now (actions_at work.now (with_bundles ground.now.bundles.value task.now) (cursor_at task.now)) }
-    ensures walk { IfOk result (IsWalk work.now (with_bundles ground.now.bundles.value task.now) ground.now) }
+    requires first { Makes work.now (with_bundles ground.now.bundles.value task.now) 0 (made_in one.now) }
+    ensures agreed { IfOk result (λ walk. IsAgreed work.now (with_bundles ground.now.bundles.value task.now) (made_of walk)) }
+    ensures holds { IfOk result (λ walk. Holds ground.now walk.doing) }
     ensures back { IfErr result (λ back. back ≡ ground.now.bundles.value) }
 {
-    let second = attempt(alloc, work, task, ground, bundles, steps)?;
+    let second = attempt_at(alloc, work, task, ground, bundles, steps, 1)?;
     match is_like(alloc, &work.recheck, sum, &second, one) {
         Ok(true) => Ok(second),
         Ok(false) => {
@@ -445,13 +477,14 @@ fn compared<'a>(
     requires rising { IsStrictlyIncreasing (map lock_in ground.now.bundles.value) }
     requires sizes { All (λ (b : BundleThere). length b.cells ≡ length (under_lock (under_of work.now) b.lock)) ground.now.bundles.value }
     requires named { AreAtHand ground.now (actions_at work.now (with_bundles ground.now.bundles.value task.now) (cursor_at task.now)) }
-    ensures walk { IfOk result (IsWalk work.now (with_bundles ground.now.bundles.value task.now) ground.now) }
+    ensures agreed { IfOk result (λ walk. IsAgreed work.now (with_bundles ground.now.bundles.value task.now) (made_of walk)) }
+    ensures holds { IfOk result (λ walk. Holds ground.now walk.doing) }
     ensures back { IfErr result (λ back. back ≡ ground.now.bundles.value) }
 {
     let Some(sum) = sum_as_left(&work.recheck, task, bundles.as_slice()) else {
         return Err(bundles);
     };
-    let first = attempt(alloc, work, task, ground, bundles, steps)?;
+    let first = attempt_at(alloc, work, task, ground, bundles, steps, 0)?;
     let (bundles, one) = part(alloc, work, task, sum, first)?;
     let walk = again(alloc, work, task, ground, bundles, sum, &one, steps);
     drop(one);
@@ -495,7 +528,8 @@ pub fn attempts<'a>(
     requires rising { IsStrictlyIncreasing (map lock_in ground.now.bundles.value) }
     requires sizes { All (λ (b : BundleThere). length b.cells ≡ length (under_lock (under_of work.now) b.lock)) ground.now.bundles.value }
     requires named { AreAtHand ground.now (actions_at work.now (with_bundles ground.now.bundles.value task.now) (cursor_at task.now)) }
-    ensures walk { IfOk result (IsWalk work.now (with_bundles ground.now.bundles.value task.now) ground.now) }
+    ensures agreed { IfOk result (λ walk. IsAgreed work.now (with_bundles ground.now.bundles.value task.now) (made_of walk)) }
+    ensures walk { IfOk result (λ walk. IfSome work.now.recheck Spares → IsWalk work.now (with_bundles ground.now.bundles.value task.now) ground.now walk) }
     ensures back { IfErr result (λ back. back ≡ ground.now.bundles.value) }
 {
     if work.recheck.is_on() {

@@ -134,6 +134,9 @@ fn old_values(alloc: Global, olds: &BTreeMap<u32, i64>) -> Result<Vec<(RecNo, i6
     ensures { IfOk result (λ values. values.items ≡ olds.now.entries) }
 {
     let mut values = Vec::new(alloc);
+    if olds.is_empty() {
+        return Ok(values);
+    }
     'keeping: for (cell, value) in olds {
         values.push((RecNo(*cell), *value))?;
     }
@@ -253,6 +256,13 @@ impl<'a> CellsAtHand<'a> {
             Some((at, place)) => value_there(&self.bundles, at, place),
             None => unreachable!(),
         }
+    }
+
+    /// Whether a cell is at hand.
+    pub fn has(&self, cell: u32) -> bool
+        ensures { IsTrue result → is_under self.now.under (map lock_in self.now.came) cell ≡ true }
+    {
+        find_cell(self.under, self.over, &self.bundles, cell).is_some()
     }
 
     /// Writes a cell at hand in place. The error is that memory is out; nothing is written then.

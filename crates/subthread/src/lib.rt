@@ -7,6 +7,8 @@ mod cells;
 mod control;
 mod damage;
 mod deeds;
+mod erring;
+mod flaw;
 mod footprints;
 mod ground;
 mod job;
@@ -24,6 +26,7 @@ mod values;
 mod walk;
 
 pub use control::control_of;
+pub use flaw::{Flaw, Made};
 pub use footprints::lock_footprint;
 pub use lending::{lend, room_for};
 pub use recheck::{Disturbance, Recheck};

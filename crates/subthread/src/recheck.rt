@@ -1,21 +1,27 @@
 // Whether the walks of a batch are made twice and compared, and what was seen of it.
 
+ghost use Rattle.std.specs.Prelude.{◌≡◌, false, [], Some, None, is_some, unwrap_or, MatchOption, IfSome};
+ghost use Rattle.subthread.specs.meaning.Flaws.{Strikes, Spares};
+ghost use Rattle.subthread.specs.declared.flaw.Made.{Made as MadeSo};
+
+use crate::flaw::{Flaw, Made, flaw_among};
 use gp_base::{Feed, Lines, Nums, Pos, Seq};
 use record_store::mixed;
 use std::alloc::{AllocError, Global};
+use std::marker::Model;
 use std::sync::atomic::{AtomicU64, Ordering};
 
-/// What is turned: of the summary of a walk, so that it differs from the walk, a bit of its count of steps, or a bit of the
-/// old value of a cell that it wrote; or of what it leaves at rest, a bit of the sum of a bundle, or of that of registers;
-/// or a bit of each sum of the feeds; or what a file is read to is taken for another. By a refusal nothing is turned, but
-/// memory is out when two walks are compared.
+/// What is turned: of the summary of a walk, so that it differs from the walk, a bit of the old value of a cell that it
+/// wrote; or of what it leaves at rest, a bit of the sum of a bundle, or of that of registers; or a bit of each sum of the
+/// feeds; or of a text that is to be written, a bit of its first byte; or what a file is read to is taken for another. By a
+/// refusal nothing is turned, but memory is out when two walks are compared.
 #[derive(Clone, Copy, PartialEq, Eq)]
 pub enum Disturbance {
-    Steps,
     OldValue,
     BundleSum,
     RegisterSum,
     FeedSum,
+    Text,
     Reading,
     Refusal,
 }
@@ -49,9 +55,11 @@ fn sums_over(alloc: Global, feed: &Feed, turned: i64) -> Result<Nums, AllocError
 
 /// Whether each walk of a batch is made twice and compared, and a sum is kept of what it leaves at rest and of the feeds;
 /// how often walks differed; which task's could not be agreed on, and at which one data were not as they were left. All
-/// workers of the batch share it, and write it in no order; nothing hangs on it but what is told of it.
+/// workers of the batch share it, and write it in no order; nothing hangs on it but what is told of it. Where walks are made
+/// twice, the flaws of the machine stand with it, by which they err; a machine that never errs has none. Contracts see a
+/// recheck as these flaws, and as none where walks are made once.
 pub struct Recheck {
-    twice: bool,
+    flaws: Option<Seq<Flaw>>,
     disturbance: Option<Disturbance>,
     feeds: Option<Lines>,
     to_disturb: AtomicU64,
@@ -61,10 +69,19 @@ pub struct Recheck {
     damaged: AtomicU64,
 }
 
+impl Model for Recheck {
+    ghost use Rattle.std.specs.Prelude.{List, Option};
+    ghost use Rattle.subthread.specs.declared.flaw.Flaw.{Flaw};
+
+    ghost Value = { Option (List Flaw) };
+
+    ghost view = { λ r. r.flaws };
+}
+
 impl Drop for Recheck {
     fn drop(self) {
         let Self {
-            twice: _,
+            flaws: _,
             disturbance: _,
             feeds: _,
             to_disturb: _,
@@ -77,9 +94,12 @@ impl Drop for Recheck {
 }
 
 impl Recheck {
-    fn made(twice: bool, disturbance: Option<Disturbance>, walks: u64) -> Recheck {
+    // Walks are made twice where there are flaws, be it none.
+    fn made(flaws: Option<Seq<Flaw>>, disturbance: Option<Disturbance>, walks: u64) -> Recheck
+        ensures { result ≡ flaws }
+    {
         Recheck {
-            twice,
+            flaws,
             disturbance,
             feeds: None,
             to_disturb: AtomicU64::new(walks),
@@ -91,29 +111,62 @@ impl Recheck {
     }
 
     /// Each walk is made once, and no sum of data at rest is kept.
-    pub fn once() -> Recheck {
-        Recheck::made(false, None, 0)
+    pub fn once() -> Recheck
+        ensures once { result ≡ None }
+        ensures spared { IfSome result Spares }
+    {
+        Recheck::made(None, None, 0)
     }
 
     /// Each walk is made twice and compared, and sums of data at rest are kept and asked.
-    pub fn twice() -> Recheck {
-        Recheck::made(true, None, 0)
+    #[tactic(auto, using(crate::proofs::Agreed::none_spared))]
+    pub fn twice(alloc: Global) -> Recheck
+        ensures twice { result ≡ Some [] }
+        ensures spared { IfSome result Spares }
+    {
+        Recheck::erring(Seq::new(alloc))
     }
 
     /// Each walk is made twice, and the summaries of so many walks, or the sums of what they leave, are disturbed so, the
     /// first ones that can be: a fault of the machine that a test makes.
-    pub fn disturbing(disturbance: Disturbance, walks: u64) -> Recheck {
-        Recheck::made(true, Some(disturbance), walks)
+    #[tactic(auto, using(crate::proofs::Agreed::none_spared))]
+    pub fn disturbing(alloc: Global, disturbance: Disturbance, walks: u64) -> Recheck
+        ensures twice { result ≡ Some [] }
+        ensures spared { IfSome result Spares }
+    {
+        Recheck::made(Some(Seq::new(alloc)), Some(disturbance), walks)
+    }
+
+    /// Each walk is made twice, as by `twice`, on a machine with these flaws.
+    pub fn erring(flaws: Seq<Flaw>) -> Recheck
+        ensures { result ≡ Some flaws }
+    {
+        Recheck::made(Some(flaws), None, 0)
+    }
+
+    /// What a flaw of the machine makes of a walk of an attempt of the subthread at a position, where it has one.
+    pub fn flaw_of(&self, pos: Pos, attempt: u32, walk: u32) -> Option<&Made>
+        ensures { MatchOption result ((made : MadeSo) → Strikes (unwrap_or self.now []) pos attempt walk made → ⊥) (λ made. Strikes (unwrap_or self.now []) pos attempt walk made.now) }
+    {
+        match &self.flaws {
+            Some(flaws) => flaw_among(flaws.as_slice(), pos, attempt, walk),
+            None => None,
+        }
     }
 
     /// Whether walks are made twice, and sums of data at rest are kept and asked.
-    pub fn is_on(&self) -> bool {
-        self.twice
+    pub fn is_on(&self) -> bool
+        ensures is { result ≡ is_some self.now }
+        ensures off { result ≡ false → self.now ≡ None }
+    {
+        self.flaws.is_some()
     }
 
     /// Keeps sums over the feeds of the batch as they now are, where sums are kept. The error is that memory is out.
-    pub fn keep_feeds(&mut self, alloc: Global, feeds: &[Feed]) -> Result<(), AllocError> {
-        if !self.twice {
+    pub fn keep_feeds(&mut self, alloc: Global, feeds: &[Feed]) -> Result<(), AllocError>
+        ensures { self.new ≡ self.old }
+    {
+        if self.flaws.is_none() {
             return Ok(());
         }
         let turned = i64::from(self.disturbs(Disturbance::FeedSum));
@@ -152,6 +205,13 @@ impl Recheck {
         self.to_disturb
             .compare_exchange(left, left - 1, Ordering::SeqCst, Ordering::SeqCst)
             .is_ok()
+    }
+
+    /// Turns a bit of the first byte of a text that is to be written, where it is disturbed so; of no byte, none.
+    pub fn disturb_text(&self, text: &mut [u8]) {
+        if !text.is_empty() && self.disturbs(Disturbance::Text) {
+            text[0] ^= 1;
+        }
     }
 
     /// Notes that two walks of the task at a position differed, which they never do without a fault of the machine.

@@ -11,6 +11,7 @@ ghost use Rattle.task_ast.specs.SyncOps.{IsNumbered};
 ghost use Rattle.subthread.specs.Tasks.{with_bundles, under_of, task_of, Fits, IsRun};
 ghost use Rattle.subthread.specs.inner.Running.{doing_of, Holds, IsTask, AreAtHand};
 ghost use Rattle.subthread.specs.inner.Leaving.{IsGroundOf, Walked, actions_at, named_footprint, effect_in, EndsAs};
+ghost use Rattle.subthread.specs.inner.Attempts.{Agrees};
 
 use crate::attempts::{Walk, attempts, given_back};
 use crate::begins::begin;
@@ -360,6 +361,7 @@ pub fn run_counted(
     requires { Fits work.now task }
     ensures of_task { IfOk result (λ done. task_of work.now done ≡ task) }
     ensures run { IfOk result (λ done. IsRun work.now done) }
+    ensures agreed { IfOk result (Agrees work.now task) }
     ensures back { IfErr result (λ failed. failed.value ≡ task) }
 {
     let ground = ground_of(work, &task);

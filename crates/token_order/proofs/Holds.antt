@@ -1,11 +1,12 @@
 -- The locks that threads hold, after a change of one that is told later.
-use Rattle.std.proofs.Common.{◌≡◌, ℕ, ◌<◌, List, length, Option, Some, None, refl, sym, ap, ◌∙◌, subst}
-use Rattle.std.specs.Prelude.{IfSome, slice_set}
+use Rattle.std.proofs.Common.{◌≡◌, ℕ, ◌<◌, Bool, true, false, cond, List, [], length, Option, Some, None, refl, sym, ap, ◌∙◌, subst}
+use Rattle.std.specs.Prelude.{IfSome, ◌==◌, slice_set, unwrap_or}
+use Rattle.std.proofs.lemmas.Bool.{false≢true, eq-eqb, eqb-true}
 use Rattle.std.specs.Option.{ForSome}
 use Rattle.task_ast.specs.meaning.Table.{owned_from}
-use Rattle.task_ast.specs.LockLists.{is_owner, with_lock}
+use Rattle.task_ast.specs.LockLists.{is_owner, with_lock, held_at}
 use Rattle.task_ast.proofs.Holds.{changed, set-set, zero_plus}
-use Rattle.task_ast.proofs.IssuedTables.{length_set}
+use Rattle.task_ast.proofs.IssuedTables.{length_set, get_set_here, get_set_other}
 use Rattle.token_order.specs.declared.held.Change.{Change}
 use Rattle.token_order.specs.Owning.{owners_with, locks_with}
 
@@ -40,3 +41,14 @@ changed_since change owners now is = ap (λ os. slice_set os change.lock change.
 pub for_some : {T : Type 0} (P : T → Type 0) (o : Option T) → IfSome o P → ForSome o P
 for_some P None h x e = absurd (cc e)
 for_some P (Some y) h x e = let same : y ≡ x = cc e in subst P same h
+
+-- the list of each thread, where one was put in the place of another
+pub held_set : (lists : List (List ℕ)) (t : ℕ) (list : List ℕ) (u : ℕ) → t < length lists
+    → held_at (slice_set lists t list) u ≡ cond (u == t) list (held_at lists u)
+held_set lists t list u within = go (u == t) refl
+  where
+    go : (b : Bool) → (u == t) ≡ b → held_at (slice_set lists t list) u ≡ cond b list (held_at lists u)
+    go true is =
+        ap (held_at (slice_set lists t list)) (eqb-true u t is) ∙ ap (λ found. unwrap_or found []) (get_set_here lists t list within)
+    go false is =
+        ap (λ found. unwrap_or found []) (get_set_other lists t u list (λ same. false≢true (sym is ∙ eq-eqb u t same)))

@@ -10,6 +10,7 @@ ghost use Rattle.token_order.specs.Turned.{is_issue};
 use crate::rules::Turn;
 use gp_base::{LockNo, Seq};
 use std::alloc::{AllocError, Global};
+use std::mem;
 use task_ast::SyncOp;
 
 /// A lock that gets another owner, or none.
@@ -20,12 +21,14 @@ pub struct Change {
 }
 
 /// The owner of each lock cell before the change of the last issue, and for each thread the locks that it owned then,
-/// in rising order. A turn takes no memory, so what it changes is told to the lists later.
+/// in rising order. A turn takes no memory, so what it changes is told to the lists later. The list that a change
+/// replaced is kept as room for the next one.
 #[derive(Drop)]
 pub struct Held {
     pub owners: Vec<Option<u32>>,
     pub locks: Vec<Seq<LockNo>>,
     pub change: Option<Change>,
+    pub room: Seq<LockNo>,
     pub alloc: Global,
 }
 
@@ -53,17 +56,19 @@ fn change_of(sync: &SyncOp, t: u32, locks: usize) -> Option<Change>
     }
 }
 
-// The locks of a rising list with one more or one less.
+// The locks of a rising list with one more or one less, in the memory of another list.
 fn with_lock(
-    alloc: Global,
+    room: Seq<LockNo>,
     held: &[LockNo],
     lock: u32,
     holds: bool,
 ) -> Result<Seq<LockNo>, AllocError>
     ensures { IfOk result (λ locks. locks ≡ with_lock holds lock held.now) }
 {
-    let most = held.len().saturating_add(holds as usize);
-    let mut locks = Seq::from_vec(Vec::with_capacity(alloc, most)?);
+    let mut room = room.into_vec();
+    room.clear();
+    room.reserve(held.len().saturating_add(holds as usize))?;
+    let mut locks = Seq::from_vec(room);
     for other in held {
         if other.0 < lock {
             locks.push(*other)?;
@@ -78,6 +83,14 @@ fn with_lock(
         }
     }
     Ok(locks)
+}
+
+// Puts a list in the place of another, which is the answer.
+fn exchange(lists: &mut Vec<Seq<LockNo>>, t: usize, list: Seq<LockNo>) -> Seq<LockNo>
+    requires { t < length lists.old.items }
+    ensures { lists.new.items ≡ slice_set lists.old.items t list }
+{
+    mem::replace(&mut lists[t], list)
 }
 
 // Whether the thread is the owner.
@@ -100,7 +113,12 @@ fn locks_with(
     ensures { IfOk result (λ locks. locks ≡ locks_with change t held.now) }
 {
     match change {
-        Some(change) => with_lock(alloc, held, change.lock, is_owner(t, change.owner)),
+        Some(change) => {
+            let holds = is_owner(t, change.owner);
+            let most = held.len().saturating_add(holds as usize);
+            let room = Seq::from_vec(Vec::with_capacity(alloc, most)?);
+            with_lock(room, held, change.lock, holds)
+        }
         None => Seq::from_slice(alloc, held),
     }
 }
@@ -132,6 +150,7 @@ impl Held {
             owners: Vec::from_elem(alloc, None, locks)?,
             locks: Vec::new(alloc),
             change: None,
+            room: Seq::new(alloc),
             alloc,
         })
     }
@@ -157,7 +176,9 @@ impl Held {
         while self.locks.len() <= t {
             self.locks.push(Seq::new(self.alloc))?;
         }
-        self.locks[t] = with_lock(self.alloc, self.locks[t].as_slice(), lock, holds)?;
+        let room = mem::replace(&mut self.room, Seq::new(self.alloc));
+        let locks = with_lock(room, self.locks[t].as_slice(), lock, holds)?;
+        self.room = exchange(&mut self.locks, t, locks);
         Ok(())
     }
 

@@ -101,6 +101,9 @@ impl Ring {
         ensures spare { self.new.spare ≡ self.old.spare }
         ensures cleared { self.new.cleared ≡ self.old.cleared }
     {
+        let start = self.threads.start();
+        self.threads.shorten(0);
+        self.threads.shorten(start);
         self.threads.pass_waiting(&mut self.spans);
     }
 
@@ -129,9 +132,6 @@ impl Ring {
         ensures cleared { self.new.cleared ≡ cleared_after result self.old.cleared }
         ensures spare { LeavesRoom result self.old.spare self.new.spare }
     {
-        let start = self.threads.start();
-        self.threads.shorten(0);
-        self.threads.shorten(start);
         if !self.cleared {
             if let Some(thread) = self.threads.settling_in(self.spans.span) {
                 return Turn::Settles(ThreadNo(thread));

@@ -6,5 +6,5 @@ mod lines;
 mod log;
 mod top;
 
-pub use log::twice_log_run;
+pub use log::{log_told, twice_log_run};
 pub use top::{run_told, twice_run};

@@ -1,6 +1,7 @@
 // The top call: all that the program does, but for `log`.
-ghost use Rattle.std.specs.Prelude.{◌≡◌};
+ghost use Rattle.std.specs.Prelude.{◌≡◌, true, is_some, IfSome};
 ghost use Rattle.command_line.specs.meaning.Words.{texts, asked_waiting};
+ghost use Rattle.subthread.specs.meaning.Flaws.{Spares};
 ghost use Rattle.call_cases.specs.meaning.Answers.{Change, change_of};
 ghost use Rattle.call_cases.specs.meaning.Headline.{Headline, ReadsNothing};
 ghost use Rattle.batch_calls.specs.meaning.WaitingCommands.{commands};
@@ -9,12 +10,12 @@ ghost use Rattle.twice_calls.specs.meaning.Differences.{traces, MayTellBehind};
 use crate::lines::tell;
 use batch_calls::run_rechecked;
 use call_cases::Outcome;
-use gp_base::{Gate, Shelf, Sink};
+use gp_base::{Gate, Seq, Shelf, Sink};
 use std::thread::Threads;
-use subthread::Recheck;
+use subthread::{Flaw, Recheck};
 
-/// Does what the words ask for, as `twice_run` does, with each subthread walked as the recheck says, which comes back with
-/// what was seen.
+/// Does what the words ask for, as `twice_run` does, with each subthread walked twice as the recheck says, which comes back
+/// with what was seen.
 pub fn run_told<R: Threads + Sync + AllocGlobal, H: Shelf, O: Sink, E: Sink, G: Gate>(
     rt: &R,
     words: &[String],
@@ -24,6 +25,8 @@ pub fn run_told<R: Threads + Sync + AllocGlobal, H: Shelf, O: Sink, E: Sink, G: 
     err: &mut E,
     gate: &G,
 ) -> (Outcome, Recheck)
+    requires twice { is_some recheck ≡ true }
+    requires spared { IfSome recheck Spares }
     ensures headline { (due : Change)
         × MayTellBehind (traces (asked_waiting (texts words.now))) result.0.status due (change_of E.written E.faults err.old err.new)
         × Headline commands (record {
@@ -53,14 +56,19 @@ pub fn run_told<R: Threads + Sync + AllocGlobal, H: Shelf, O: Sink, E: Sink, G: 
 /// walks differed, unless a trace is asked for. Where the walks of a position could not be agreed on, or data that it is
 /// lent, reads of a feed or tells were not as they were left, the call stops with status 1, and a line of that stands in
 /// the place of that of memory that is out.
+///
+/// All of this holds on a machine with these flaws, as long as no two walks of one attempt err alike: that, two of three walks
+/// can't tell. One that doesn't err has none.
 pub fn twice_run<R: Threads + Sync + AllocGlobal, H: Shelf, O: Sink, E: Sink, G: Gate>(
     rt: &R,
     words: &[String],
     shelf: &mut H,
+    flaws: Seq<Flaw>,
     out: &mut O,
     err: &mut E,
     gate: &G,
 ) -> Outcome
+    requires spared { Spares flaws }
     ensures headline { (due : Change)
         × MayTellBehind (traces (asked_waiting (texts words.now))) result.status due (change_of E.written E.faults err.old err.new)
         × Headline commands (record {
@@ -77,5 +85,5 @@ pub fn twice_run<R: Threads + Sync + AllocGlobal, H: Shelf, O: Sink, E: Sink, G:
     // The shelf is not read for words of no command, nor for a batch that the program makes itself.
     ensures unread { ReadsNothing commands (asked_waiting (texts words.now)) → shelf.new ≡ shelf.old }
 {
-    run_told(rt, words, shelf, Recheck::twice(), out, err, gate).0
+    run_told(rt, words, shelf, Recheck::erring(flaws), out, err, gate).0
 }

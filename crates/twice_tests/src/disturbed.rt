@@ -1,18 +1,18 @@
-// Runs of which walks are disturbed, or the sums of what they leave at rest, or that of the feeds. What they write was
-// reckoned by hand: the first walk of a run is that of position 0, and where two threads add to one total, the first that
-// has a cell is that of position 4.
-ghost use Rattle.std.specs.Prelude.{◌≡◌, ◌<◌, ◌%◌, IfOk};
+// Runs of which walks are disturbed, or the sums of what they leave at rest, or that of the feeds, or texts that are to be
+// written. What they write was reckoned by hand: the first walk of a run is that of position 0, and where two threads add to
+// one total, the first that has a cell is that of position 4.
+ghost use Rattle.std.specs.Prelude.{◌≡◌, ◌<◌, ◌%◌, true, is_some, IfOk, IfSome};
 ghost use Rattle.gp_base.specs.Files.{HasDistinctNames};
+ghost use Rattle.subthread.specs.meaning.Flaws.{Spares};
 
-use batch_calls::log_rechecked;
 use batch_fixtures::files::{put, words_of};
-use batch_fixtures::programs::{ADD, ADDED};
+use batch_fixtures::programs::ADD;
 use gp_base::{Feed, FreeGate, MemShelf, MemSink, Name, Nums, Seq, Text};
 use std::alloc::{AllocError, Global};
 use std::test::Fail;
 use std::thread::Threads;
 use subthread::{Disturbance, Recheck};
-use twice_calls::run_told;
+use twice_calls::{log_told, run_told};
 
 // A cell is written under its lock at position 1. All lines before the settle are published when position 3 begins with
 // it, and position 4 is the next that has the cell.
@@ -70,13 +70,33 @@ task main() {
 }
 ";
 
+// The second cell of a lock of one is not there: the only subthread ends with that.
+const NO_CELL: &str = "lock tally[1];
+task main() {
+  var i;
+  i = 1;
+  lock tally[i];
+  unlock tally[i];
+}
+";
+
+const NO_CELL_TEXT: &str =
+    "output\nstuck index thread 0 line 5\nrestarts\ncounts\nsubthreads 1\nrestarts 0\nredone 0\nunused 0\n";
+
+// A loop without an end spends the turns that a subthread may take.
+const ENDLESS: &str = "task main() {
+  var i;
+  while i == 0 { }
+}
+";
+
+const ENDLESS_TEXT: &str =
+    "output\nspent 10\nrestarts\ncounts\nsubthreads 1\nrestarts 0\nredone 0\nunused 0\n";
+
 const RATES: &str = "1,2\n3,4\n5,6\n7,8\n9,10\n11,12\n13,14\n15,16\n17,18\n";
 
 // A fault strikes position 4, and is reported three issues later.
 const FAULT: &str = "4,0,3,5\n";
-
-const ADD_LOG: &str =
-    "0 7 ; 0 ; ;\n1 7 ; 0 ; 0 0 ;\n2 7 ; 0 0 ; ;\n3 7 ; 0 ; 0 0 ;\n4 7 ; 0 0 ; ; 0 3\n5 7 ; 0 0 ; ;\n6 7 ; 0 0 ; ;\n7 7 ; 0 3 ; ; 0 7\n8 7 ; 0 ; ;\n9 7 ; 0 3 ; ;\n10 7 ; 0 ; ;\n";
 
 // The crews, in the words that name them.
 static CREWS: [&str; 5] = ["one", "wave", "board", "steal", "pipe"];
@@ -115,7 +135,10 @@ fn answer_under<R: Threads + Sync + AllocGlobal>(
     program: &str,
     words: &str,
     recheck: Recheck,
-) -> Result<Box<Answer>, AllocError> {
+) -> Result<Box<Answer>, AllocError>
+    requires twice { is_some recheck ≡ true }
+    requires spared { IfSome recheck Spares }
+{
     let alloc = rt.alloc();
     let is_log = words.starts_with("log");
     let words = words_of(alloc, words)?;
@@ -123,7 +146,7 @@ fn answer_under<R: Threads + Sync + AllocGlobal>(
     let mut output = MemSink::new(alloc, 1000, Seq::new(alloc));
     let mut error = MemSink::new(alloc, 1000, Seq::new(alloc));
     let (outcome, recheck) = if is_log {
-        let outcome = log_rechecked(
+        let outcome = log_told(
             rt,
             &words,
             &mut shelf,
@@ -165,59 +188,13 @@ fn answers<R: Threads + Sync + AllocGlobal>(
     output: &str,
     error: &str,
 ) -> Result<(), Fail> {
-    let recheck = Recheck::disturbing(disturbed.0, disturbed.1);
+    let recheck = Recheck::disturbing(rt.alloc(), disturbed.0, disturbed.1);
     let answer = answer_under(rt, program, words, recheck)?;
     if answer.is(status, output, error) {
         Ok(())
     } else {
         Err(Fail::from("the call answered something else"))
     }
-}
-
-#[test]
-fn a_walk_that_differs_is_put_right(rt: HostRuntime) -> Result<(), Fail> {
-    let line = "gprs_twice: differed 1, last 0\n";
-    answers(
-        &rt,
-        ADD,
-        "run p.gp",
-        (Disturbance::Steps, 1),
-        0,
-        ADDED,
-        line,
-    )?;
-    answers(
-        &rt,
-        ADD,
-        "one p.gp",
-        (Disturbance::Steps, 1),
-        0,
-        ADDED,
-        line,
-    )
-}
-
-#[test]
-fn walks_that_are_all_unlike_stop_the_run(rt: HostRuntime) -> Result<(), Fail> {
-    let lines = "gprs_twice: position 0 could not be agreed on\ngprs_twice: differed 1, last 0\n";
-    answers(
-        &rt,
-        ADD,
-        "run p.gp",
-        (Disturbance::Steps, 2),
-        1,
-        "output\n",
-        lines,
-    )?;
-    answers(
-        &rt,
-        ADD,
-        "one p.gp",
-        (Disturbance::Steps, 2),
-        1,
-        "output\n",
-        lines,
-    )
 }
 
 #[test]
@@ -282,12 +259,14 @@ fn files_are_read_twice(rt: HostRuntime) -> Result<(), Fail> {
     answers(&rt, FED, "run p.gp", once, 0, FED_TEXT, "")?;
     answers(&rt, FED, "one p.gp", once, 0, FED_TEXT, "")?;
     let twice = (Disturbance::Reading, 2);
-    answers(&rt, FED, "run p.gp", twice, 1, "", "gprs: out of memory\n")
+    let line = "gprs: out of memory\n";
+    answers(&rt, FED, "run p.gp", twice, 1, "", line)?;
+    answers(&rt, FED, "log p.gp", twice, 1, "", line)
 }
 
 // A recheck that has the sums over a feed of ten cells, whose rows have two: a sum stands for eight cells.
 fn kept(alloc: Global) -> Result<Recheck, AllocError> {
-    let mut recheck = Recheck::twice();
+    let mut recheck = Recheck::twice(alloc);
     let cells = Nums::from_slice(alloc, &[5, 6, 7, 8, 0, 0, 0, 0, 9, 9])?;
     let mut feeds = Vec::new(alloc);
     feeds.push(Feed::new(2, cells))?;
@@ -327,7 +306,7 @@ fn a_feed_that_changed_is_seen_where_it_is_read(rt: HostRuntime) -> Result<(), F
 fn memory_that_is_refused_is_no_difference(rt: HostRuntime) -> Result<(), Fail> {
     let line = "gprs: out of memory\n";
     for words in ["run p.gp", "one p.gp"] {
-        let recheck = Recheck::disturbing(Disturbance::Refusal, 1);
+        let recheck = Recheck::disturbing(rt.alloc(), Disturbance::Refusal, 1);
         let answer = answer_under(&rt, ADD, words, recheck)?;
         if answer.recheck.differed() != 0 || !answer.is(1, "output\n", line) {
             return Err(Fail::from("a refusal is told otherwise"));
@@ -336,22 +315,45 @@ fn memory_that_is_refused_is_no_difference(rt: HostRuntime) -> Result<(), Fail> 
     Ok(())
 }
 
+// A text that is to be written is made twice: that of the lines of a position, what follows all lines, and the summary of a
+// batch that the program makes.
 #[test]
-fn nothing_stands_behind_a_trace_or_a_log(rt: HostRuntime) -> Result<(), Fail> {
-    let traced = answer_under(&rt, ADD, "run p.gp --trace", Recheck::once())?;
-    let disturbed = Recheck::disturbing(Disturbance::Steps, 1);
-    let again = answer_under(&rt, ADD, "run p.gp --trace", disturbed)?;
-    if again.recheck.differed() != 1 || again.error.written() != traced.error.written() {
-        return Err(Fail::from("the trace is another one"));
-    }
+fn a_changed_text_is_told_before_it_is_written(rt: HostRuntime) -> Result<(), Fail> {
+    let disturbed = (Disturbance::Text, 1);
+    let line = "gprs_twice: data damaged at position 0\n";
+    answers(&rt, KEPT, "run p.gp", disturbed, 1, "output\n", line)?;
+    answers(&rt, KEPT, "one p.gp", disturbed, 1, "output\n", line)?;
+    answers(&rt, KEPT, "log p.gp", disturbed, 1, "output\n", "")?;
+    let line = "gprs_twice: data damaged at position 10\n";
+    answers(&rt, ADD, "run p.gp", disturbed, 1, "output\n", line)?;
+    answers(&rt, ADD, "one p.gp", disturbed, 1, "output\n", line)?;
+    let line = "gprs_twice: data damaged at position 40\n";
+    answers(&rt, "", "soak 4 1 --crew one", disturbed, 1, "", line)
+}
+
+// Walks that end the run are alike too, as are those of every other end.
+#[test]
+fn a_run_that_ends_otherwise_ends_as_it_is(rt: HostRuntime) -> Result<(), Fail> {
+    let alike = (Disturbance::OldValue, 0);
+    answers(&rt, NO_CELL, "run p.gp", alike, 5, NO_CELL_TEXT, "")?;
+    answers(&rt, NO_CELL, "one p.gp", alike, 5, NO_CELL_TEXT, "")?;
     answers(
         &rt,
-        ADD,
-        "log p.gp",
-        (Disturbance::Steps, 1),
-        0,
-        ADDED,
-        ADD_LOG,
+        ENDLESS,
+        "run p.gp --turns 10",
+        alike,
+        6,
+        ENDLESS_TEXT,
+        "",
+    )?;
+    answers(
+        &rt,
+        ENDLESS,
+        "one p.gp --turns 10",
+        alike,
+        6,
+        ENDLESS_TEXT,
+        "",
     )
 }
 
@@ -361,7 +363,7 @@ fn no_difference_is_told_where_nothing_is_disturbed(rt: HostRuntime) -> Result<(
     for crew in &CREWS {
         let words = format!(in rt.alloc(); "run p.gp --faults f.csv --workers 2 --crew {crew}")?;
         for program in [ADD, FED, COUNTED] {
-            let answer = answer_under(&rt, program, &words, Recheck::twice())?;
+            let answer = answer_under(&rt, program, &words, Recheck::twice(rt.alloc()))?;
             let is_told = answer.recheck.differed() > 0 || answer.recheck.has_stopped();
             if is_told || !(answer.status == 0 || answer.status == 1) {
                 return Err(Fail::from("a difference is told, or another status"));

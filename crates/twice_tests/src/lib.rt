@@ -5,4 +5,6 @@
 #[cfg(test)]
 mod disturbed;
 #[cfg(test)]
+mod flawed;
+#[cfg(test)]
 mod rolled;

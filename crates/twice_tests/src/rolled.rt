@@ -19,7 +19,12 @@ fn plan_of_adders(alloc: Global) -> Result<(Work, Begins), Fail>
     ensures { IfOk result (λ made. Suits made.0 made.1.layout made.1.inputs made.1.limits) }
 {
     let files = files_of(alloc, ADD)?;
-    match planned(alloc, "run p.gp --faults f.csv", files, Recheck::twice())? {
+    match planned(
+        alloc,
+        "run p.gp --faults f.csv",
+        files,
+        Recheck::twice(alloc),
+    )? {
         Some(plan) => Ok(plan),
         None => Err(Fail::from("the program is not to be run")),
     }

@@ -124,6 +124,7 @@ module _ (batch : Batch) (cells : Layout) (suits : Suits batch.work cells batch.
           inputs_are = suits.inputs_are;
           feeds_are = suits.feeds_are;
           turns_are = suits.turns_are;
+          spared = suits.spared;
         };
         short = λ k d l. (ranges k d l).delay;
         few = few;

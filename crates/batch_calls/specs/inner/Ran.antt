@@ -1,5 +1,5 @@
 -- How the parts of a run over a journal stand to its work.
-use Rattle.std.specs.Prelude.{◌≡◌, ◌≤◌, ◌-◌, ℕ, ⊤, List, ◌++◌, length, take, flat_map, slice_get, Result, OnOk, OnErr, IfOk, IfErr}
+use Rattle.std.specs.Prelude.{◌≡◌, ◌⊎◌, ◌≤◌, ◌-◌, ℕ, ⊤, List, ◌++◌, length, take, flat_map, slice_get, Result, OnOk, OnErr, IfOk, IfErr}
 use Rattle.gp_base.specs.declared.journal.Journal.{Journal}
 use Rattle.gp_base.specs.declared.sink.SinkFault.{SinkFault}
 use Rattle.gp_base.specs.declared.sink.SinkFault.TheVariants.{Failed}
@@ -47,6 +47,10 @@ fault_of why.OutOfMemory = sink.OutOfMemory
 abbrev pub StopsWith : StopWhy → Change → ℕ → Type 0
 StopsWith WriteFault err status = LineEnds 8 write_line err status
 StopsWith why.OutOfMemory err status = LineEnds 1 memory_line err status
+
+-- a trace was written, or where there was no memory to make it, the line of that
+abbrev pub TraceEnds : (due : ℕ) (trace : List ℕ) → Change → ℕ → Type 0
+TraceEnds due trace err status = LineEnds due trace err status ⊎ LineEnds 1 memory_line err status
 
 -- what follows the printed lines of a run of this program with this report, and the summary of it
 abbrev pub told_tail : Program → Report → List ℕ

@@ -1,13 +1,15 @@
 -- Laws that join the top calls.
-use Rattle.std.specs.Prelude.{◌≡◌, ◌⊎◌, ◌≤◌, ℕ, List, ◌++◌, Some, length, take}
+use Rattle.std.specs.Prelude.{◌≡◌, ◌⊎◌, ◌≤◌, ℕ, pos, List, [], ◌∷◌, ◌++◌, Some, length, take}
 use Rattle.gp_base.specs.meaning.Files.{bytes_of}
 use Rattle.gp_base.specs.declared.limits.TheConstants.{MOST_FILE_BYTES}
 use Rattle.task_ast.specs.meaning.Tree.{Name}
+use Rattle.retirement_log.specs.meaning.Rows.{Retirement}
+use Rattle.gp_resume.specs.meaning.Resumed.{bytes_before}
 use Rattle.command_line.specs.declared.asked.Command.TheVariants.{One, Log}
 use Rattle.command_line.specs.declared.resume_words.Resumed.{Resumed}
 use Rattle.call_cases.specs.meaning.Work.{Files, ToDo, Case, Go}
 use Rattle.call_cases.specs.meaning.Answers.{Change, IsUntouched}
-use Rattle.call_cases.specs.meaning.Case.{IsCaseOf, IsCase, HasWork, text_of}
+use Rattle.call_cases.specs.meaning.Case.{IsCaseOf, IsCase, text_of}
 use Rattle.call_cases.specs.meaning.RunCommands as run
 use Rattle.call_cases.specs.meaning.Headline.{Call, IsStop, Headline}
 use Rattle.batch_calls.specs.meaning.LogCommands as log
@@ -35,15 +37,19 @@ pub record BeginsText (count : ℕ) (text written : List ℕ) : Type 0 where
   pub within : count ≤ length written
   pub same : take count written ≡ take count text
 
--- A call of `log_run` over these files, whose run has begun, wrote this log. Where that stands in a file, and the same batch is to go on from it,
--- there is a run to go on with, and its text is that of one thread, but for its first bytes: so many are the first of the logged call's output.
+-- A call of `log_run` over these files, whose run has begun, wrote this log. Where its first bytes stand in a file, be it all of them, and the same
+-- batch is to go on from it, there is a run to go on with, and its text is that of one thread, but for as many first bytes as its rows say: so many
+-- are the first of the logged call's output.
 abbrev pub LoggedLaw : Type 0
 LoggedLaw =
     (call : Call) (files : Files) (names : List Name) (work : ToDo) (logged : List ℕ)
     → Headline log.commands call → call.files ≡ Some files → IsCase log.asking call.words files (Go names work)
-    → work.command ≡ Log → HasBegun call → Wrote call.err logged → length logged ≤ MOST_FILE_BYTES
-    → (resumed : Resumed) (files' : Files) (names' : List Name) (work' : ToDo) (case : Case Resumption)
+    → work.command ≡ Log → HasBegun call → Wrote call.err logged
+    → (kept : ℕ) (resumed : Resumed) (files' : Files) (names' : List Name) (work' : ToDo) (case : Case Resumption)
     → IsCaseOf run.asking resumed.run files' (Go names' work') → IsSameBatch work work'
-    → bytes_of files' resumed.log ≡ Some logged → IsCaseOf resume.asking resumed files' case
-    → HasWork case × (count : ℕ) × (take count (run.work_text One work') ++ text_of resume.commands case ≡ run.work_text One work')
+    → bytes_of files' resumed.log ≡ Some (take kept logged) → length (take kept logged) ≤ MOST_FILE_BYTES
+    → IsCaseOf resume.asking resumed files' case
+    → (rows : List Retirement) × (count : ℕ) × (bytes_before rows ≡ pos count)
+    × (case ≡ Go (names' ++ resumed.log ∷ []) (record { work = work'; rows = rows }))
+    × (take count (run.work_text One work') ++ text_of resume.commands case ≡ run.work_text One work')
     × ((written : List ℕ) → Wrote call.out written → BeginsText count (run.work_text One work') written)

@@ -1,6 +1,6 @@
 // Retiring the oldest position.
 
-ghost use Rattle.std.specs.Prelude.{◌≡◌, ◌≤◌, false, is_some, IfOk, OnErr, OnOk};
+ghost use Rattle.std.specs.Prelude.{◌≡◌, ◌≤◌, false, is_some, IsTrue, IfOk, OnErr, OnOk};
 ghost use Rattle.std.specs.Io.KnownBytes.{Appends};
 ghost use Rattle.gp_base.specs.meaning.Sinks.{AppendsPrefix};
 ghost use Rattle.reorder_list.specs.Entries.{IsInRow};
@@ -96,7 +96,9 @@ fn put<O: Sink>(out: &mut O, bytes: &[u8]) -> Result<(), StopWhy>
 
 // Whether this is the text of the lines of an entry, and the record cells, where it is the last one, are as they were
 // left. The error is that memory is out.
-fn is_whole(alloc: Global, parts: &Parts, entry: &Entry, text: &[u8]) -> Result<bool, AllocError> {
+fn is_whole(alloc: Global, parts: &Parts, entry: &Entry, text: &[u8]) -> Result<bool, AllocError>
+    ensures { IfOk result (λ whole. IsTrue whole → text.now ≡ printed entry.now.prints) }
+{
     let is_last = parts.rol.len() == 1 && matches!(parts.ended, Some(Halt::Ended(_)));
     if is_last && !parts.store.is_whole() {
         return Ok(false);
@@ -109,15 +111,19 @@ fn is_whole(alloc: Global, parts: &Parts, entry: &Entry, text: &[u8]) -> Result<
 fn text_of(alloc: Global, plan: &Plan, parts: &Parts, entry: &Entry) -> Result<Vec<u8>, AllocError>
     ensures { IfOk result (λ text. text.items ≡ printed entry.now.prints) }
 {
-    let text = printed(alloc, &entry.prints)?;
-    if plan.work.recheck.is_on() && !is_whole(alloc, parts, entry, &text)? {
-        plan.work.recheck.note_damaged(entry.pos);
-        return Err(AllocError);
+    let mut text = printed(alloc, &entry.prints)?;
+    let recheck = &plan.work.recheck;
+    if recheck.is_on() {
+        recheck.disturb_text(&mut text);
+        if !is_whole(alloc, parts, entry, &text)? {
+            recheck.note_damaged(entry.pos);
+            return Err(AllocError);
+        }
     }
     Ok(text)
 }
 
-// Writes the lines of the oldest entry.
+// Writes the lines of the oldest entry. Where there are none and walks are not compared, nothing is made for that.
 fn write_oldest<O: Sink>(
     alloc: Global,
     plan: &Plan,
@@ -130,6 +136,9 @@ fn write_oldest<O: Sink>(
 {
     match parts.rol.front() {
         Some(entry) => {
+            if entry.prints.is_empty() && !plan.work.recheck.is_on() {
+                return Ok(());
+            }
             let text = text_of(alloc, plan, parts, entry)?;
             put(out, &text)
         }
@@ -161,7 +170,6 @@ pub fn retire<O: Sink>(
     write_oldest(alloc, plan, parts, out)?;
     let entry = parts.rol.retire_front();
     let position = entry.pos;
-    drop(entry);
     drop_before(&mut parts.backup, position.0 + 1);
     parts.events.push(Event::Retire(position));
     Ok(Some(position))

@@ -193,6 +193,9 @@ impl FaultsInOrder {
         requires { IsInRow rol.now.entries }
         ensures { result ≡ struck_in known rol.now.entries front self.now.list }
     {
+        if self.len() == 0 {
+            return None;
+        }
         if let Some(position) = self.least_struck(rol, front, false) {
             return Some(position);
         }

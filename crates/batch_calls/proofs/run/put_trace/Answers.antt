@@ -1,7 +1,7 @@
 use Rattle.restart_log.specs.meaning.Trace.{trace_text}
 use Rattle.call_cases.specs.meaning.Answers.{change_of}
-use Rattle.std.proofs.Common.{refl, [], if◌then◌else◌}
-use Rattle.batch_calls.proofs.RunEnds.{untraced, trace_without}
+use Rattle.std.proofs.Common.{inl, inr, refl, sym, [], if◌then◌else◌, subst}
+use Rattle.batch_calls.proofs.RunEnds.{untraced}
 use Rattle.batch_calls.proofs.run.put_trace.Goals as goal
 
 pub returns-then-not-is_traced : goal.returns-then-not-is_traced
@@ -10,6 +10,4 @@ returns-then-not-is_traced g c =
     untraced c.args.due c.args.is_traced (trace_text c.args.journal.now) err c.if-not-is_traced.true refl
 
 pub returns-in-Err : goal.returns-in-Err
-returns-in-Err g c =
-    let err = change_of g.E.Sink.written g.E.Sink.faults c.args.err.now c.args.err.now in
-    trace_without c.args.due (if c.args.is_traced then trace_text c.args.journal.now else []) err refl
+returns-in-Err g c = inr c.tell_line.ensures

@@ -4,6 +4,7 @@ use Rattle.command_line.proofs.KeepsNoLog.{words_keep_none}
 use Rattle.call_cases.specs.meaning.Answers.{change_of}
 use Rattle.batch_calls.specs.inner.Reading.{Answers}
 use Rattle.batch_calls.proofs.Answered.{run_headed, run_refused}
+use Rattle.batch_calls.proofs.Runs.{runs_batch}
 use Rattle.batch_calls.proofs.top.gprs_run.Goals as goal
 
 pub returns-in-Ok-clause-headline : goal.returns-in-Ok-clause-headline
@@ -45,3 +46,9 @@ returns-in-Err-clause-headline g c =
     (change_of g.E.Sink.written g.E.Sink.faults c.args.err.now c.refused_outcome.new.err)
     c.refused_outcome.result.status c.refused_outcome.result.journal c.in-Err.refusal answers (ap g.H.Shelf.failed)
     c.refused_outcome.ensures.empty c.refused_outcome.ensures.ends
+
+pub returns-in-Ok-clause-run : goal.returns-in-Ok-clause-run
+returns-in-Ok-clause-run g c = runs_batch _ (returns-in-Ok-clause-headline g c)
+
+pub returns-in-Err-clause-run : goal.returns-in-Err-clause-run
+returns-in-Err-clause-run g c = runs_batch _ (returns-in-Err-clause-headline g c)

@@ -1,16 +1,13 @@
-use Rattle.std.proofs.Common.{sym, ◌∙◌, subst}
+use Rattle.std.proofs.Common.{sym, subst}
 use Rattle.subthread.specs.Tasks.{with_bundles}
-use Rattle.subthread.specs.inner.Attempts.{IsWalk}
-use Rattle.subthread.proofs.Leavings.{if_ok, if_err}
+use Rattle.subthread.specs.inner.Attempts.{Makes, made_in}
+use Rattle.subthread.proofs.Agreed.{third_agrees}
 use Rattle.subthread.proofs.attempts.decided.Goals as goal
 
-pub returns-in-Ok-clause-walk : goal.returns-in-Ok-clause-walk
-returns-in-Ok-clause-walk c =
-    let ground = c.args.ground.now in
-    if_ok c.agreed-walk.result
-    (λ walk same. subst (IsWalk c.args.work.now (with_bundles ground.bundles.value c.args.task.now) ground) (sym same)
-    c.in-Ok.ensures.walk)
-    c.agreed-walk.ensures.walk
-
-pub returns-in-Ok-clause-back : goal.returns-in-Ok-clause-back
-returns-in-Ok-clause-back c = if_err c.agreed-walk.result (λ back same. same ∙ c.in-Ok.ensures.walk.holds.1) c.agreed-walk.ensures.back
+pub returns-in-Ok-clause-agreed : goal.returns-in-Ok-clause-agreed
+returns-in-Ok-clause-agreed c =
+    let work = c.args.work.now in
+    let task = with_bundles c.args.ground.now.bundles.value c.args.task.now in
+    third_agrees work task c.agreed-walk.result c.in-Ok.third (made_in c.args.one.now) (made_in c.in_ok-bundles.two)
+    c.agreed-walk.ensures.walk c.agreed-walk.ensures.like c.requires.first
+    (subst (Makes work task 1) (sym c.in_ok-bundles.ensures.left) c.requires.second) c.in-Ok.ensures.makes
