@@ -79,14 +79,15 @@ fn tail_of(alloc: Global, basis: &Basis, report: &Report) -> Result<Text, AllocE
     let checked = &basis.plan.checked;
     let recheck = &basis.work.recheck;
     let mut tail = tail_text(alloc, checked, report)?.into_vec();
-    if recheck.is_on() {
-        recheck.disturb_text(&mut tail);
-        if !is_tail_text(alloc, &tail, checked, report)? {
-            recheck.note_damaged(last_of(report));
-            return Err(AllocError);
-        }
+    if !recheck.is_on() {
+        return Ok(Seq::from_vec(tail));
     }
-    Ok(Seq::from_vec(tail))
+    recheck.disturb_text(&mut tail);
+    if is_tail_text(alloc, &tail, checked, report)? {
+        return Ok(Seq::from_vec(tail));
+    }
+    recheck.note_damaged(last_of(report));
+    Err(AllocError)
 }
 
 // The summary of a batch that the program made; where walks are compared, it is made twice, as `tail_of` does.
@@ -100,14 +101,15 @@ fn summary_of(
 {
     let (moves, start) = (soak.moves, soak.start);
     let mut summary = soak_text(alloc, moves, start, report)?.into_vec();
-    if recheck.is_on() {
-        recheck.disturb_text(&mut summary);
-        if !is_soak_text(alloc, &summary, moves, start, report)? {
-            recheck.note_damaged(last_of(report));
-            return Err(AllocError);
-        }
+    if !recheck.is_on() {
+        return Ok(Seq::from_vec(summary));
     }
-    Ok(Seq::from_vec(summary))
+    recheck.disturb_text(&mut summary);
+    if is_soak_text(alloc, &summary, moves, start, report)? {
+        return Ok(Seq::from_vec(summary));
+    }
+    recheck.note_damaged(last_of(report));
+    Err(AllocError)
 }
 
 /// Writes what follows the printed lines.

@@ -113,14 +113,15 @@ fn text_of(alloc: Global, plan: &Plan, parts: &Parts, entry: &Entry) -> Result<V
 {
     let mut text = printed(alloc, &entry.prints)?;
     let recheck = &plan.work.recheck;
-    if recheck.is_on() {
-        recheck.disturb_text(&mut text);
-        if !is_whole(alloc, parts, entry, &text)? {
-            recheck.note_damaged(entry.pos);
-            return Err(AllocError);
-        }
+    if !recheck.is_on() {
+        return Ok(text);
     }
-    Ok(text)
+    recheck.disturb_text(&mut text);
+    if is_whole(alloc, parts, entry, &text)? {
+        return Ok(text);
+    }
+    recheck.note_damaged(entry.pos);
+    Err(AllocError)
 }
 
 // Writes the lines of the oldest entry. Where there are none and walks are not compared, nothing is made for that.
