@@ -355,7 +355,6 @@ fn nothing_stands_behind_a_trace_or_a_log(rt: HostRuntime) -> Result<(), Fail> {
     )
 }
 
-// Also where an allocation is refused, which is no difference.
 #[test]
 fn no_difference_is_told_where_nothing_is_disturbed(rt: HostRuntime) -> Result<(), Fail> {
     for crew in &CREWS {
@@ -363,7 +362,7 @@ fn no_difference_is_told_where_nothing_is_disturbed(rt: HostRuntime) -> Result<(
         for program in [ADD, FED, COUNTED] {
             let answer = answer_under(&rt, program, &words, Recheck::twice())?;
             let is_told = answer.recheck.differed() > 0 || answer.recheck.has_stopped();
-            if is_told || !(answer.status == 0 || answer.status == 1) {
+            if is_told || answer.status != 0 || !answer.error.written().is_empty() {
                 return Err(Fail::from("a difference is told, or another status"));
             }
         }
