@@ -10,6 +10,7 @@ Beside each NAME.gp stands a NAME.py that prints what NAME.out holds. Run it in 
 """
 
 import sys
+from bisect import bisect_right
 from dataclasses import dataclass
 
 
@@ -148,6 +149,7 @@ class Order:
     def __init__(self, main, most_subthreads=100_000):
         self.most_subthreads = most_subthreads
         self.threads = [Thread(main())]
+        self.live = [0]
         self.owners = {}
         self.subthreads = []
         self.end = self.take_turns()
@@ -158,7 +160,7 @@ class Order:
         thread = 0
         while thread is not None:
             if thread in passed:
-                return End("stuck deadlock", min(other for other, this in enumerate(self.threads) if not this.has_ended()))
+                return End("stuck deadlock", self.live[0])
             end = self.ends(thread)
             if end is not None:
                 return end
@@ -175,12 +177,8 @@ class Order:
 
     def after(self, thread):
         """The first thread after this one that has not ended."""
-        count = len(self.threads)
-        for step in range(1, count + 1):
-            other = (thread + step) % count
-            if not self.threads[other].has_ended():
-                return other
-        return None
+        place = bisect_right(self.live, thread)
+        return (self.live[place:place + 1] or self.live[:1] or [None])[0]
 
     def ends(self, thread):
         """How the run ends at the turn of this thread, if its next synchronisation ends it."""
@@ -229,6 +227,7 @@ class Order:
         elif isinstance(sync, Fork):
             answer = len(self.threads)
             self.threads.append(Thread(sync.task(*sync.arguments)))
+            self.live.append(answer)
             writes.add(("thread", answer))
         elif isinstance(sync, Join):
             answer = self.threads[sync.thread].result
@@ -236,6 +235,8 @@ class Order:
         this.arrived = this.released = False
         Named.begin()
         this.run(answer)
+        if this.has_ended():
+            self.live.remove(thread)
         settles = isinstance(sync, Settle)
         self.subthreads.append(Subthread(frozenset(reads | Named.reads), frozenset(writes | Named.writes), settles, thread))
 

@@ -256,7 +256,7 @@ def calls_of(comparison, draw, number, folder):
 def changed_words(draw, words):
     """Words that are changed at one place."""
     words, at = list(words), draw.randrange(len(words))
-    odd = ["--turns", "--trace", "--crew", "one", "--workers=65", "--workers", "0", "--help", "-h", "--every", "x", "", "--turns=0", "--faults", "p.gp", "check"]
+    odd = ["--turns", "--trace", "--crew", "one", "--workers=65", "--workers", "0", "--help", "-h", "-", "--", "--every", "x", "", "--turns=0", "--faults", "p.gp", "check"]
     match draw.choice(["drop", "double", "put", "more"]):
         case "drop":
             del words[at]

@@ -19,12 +19,8 @@ def order():
     """After thread t comes the last one before it that has not ended."""
 
     def after(self, thread):
-        count = len(self.threads)
-        for step in range(1, count + 1):
-            other = (thread - step) % count
-            if not self.threads[other].has_ended():
-                return other
-        return None
+        before = [other for other in self.live if other < thread] or self.live
+        return before[-1] if before else None
 
     Order.after = after
 

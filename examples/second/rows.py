@@ -111,7 +111,7 @@ def faults(data):
 
 WHOLE = r"(?:0|[1-9][0-9]*)"
 SIGNED = rf"(?:0|-?[1-9][0-9]*)"
-LOG_ROW = re.compile(rf"({WHOLE}) ({WHOLE}) ;((?: {SIGNED})*) ;((?: {SIGNED})*) ;((?: {WHOLE} {SIGNED})*)")
+LOG_ROW = re.compile(rf"({SIGNED}) ({SIGNED}) ;((?: {SIGNED})*) ;((?: {SIGNED})*) ;((?: {SIGNED} {SIGNED})*)")
 TRACE_ROW = re.compile(
     rf"(issue) ({WHOLE})|(post) ({WHOLE}) ({WHOLE})|(take) ({WHOLE}) ({WHOLE}) (applied|stale)"
     rf"|(restart) ({WHOLE}) ({WHOLE}) ({WHOLE}) redo((?: {WHOLE})*)|(retire) ({WHOLE})"
@@ -125,9 +125,7 @@ def log_row(line):
         return None
     position, length = int(match[1]), int(match[2])
     groups = [[int(text) for text in match[group].split()] for group in (3, 4, 5)]
-    cell_numbers = groups[2][0::2]
-    whole = [position, length, *cell_numbers]
-    if not all(n < 2**64 for n in whole) or not all(LEAST <= n <= GREATEST for n in groups[0] + groups[1] + groups[2][1::2]):
+    if not all(LEAST <= n <= GREATEST for group in ([position, length], *groups) for n in group):
         return None
     return position, length, *groups
 

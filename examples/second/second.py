@@ -69,9 +69,12 @@ def words_of(words):
     names, options, rest = [], {}, list(words[1:])
     while rest:
         word = rest.pop(0)
-        if not word.startswith("--"):
+        if not is_option(word):
             names.append(word)
             continue
+        if word == "--":
+            names += rest
+            break
         option, equals, value = word.partition("=")
         if option not in allowed.split() or option in options:
             raise USAGE
@@ -81,13 +84,18 @@ def words_of(words):
             options[option] = True
             continue
         if not equals:
-            if not rest:
+            if not rest or is_option(rest[0]):
                 raise USAGE
             value = rest.pop(0)
         options[option] = option_value(command, option, value)
     if len(names) != count:
         raise USAGE
     return command, names, options
+
+
+def is_option(word):
+    """Whether a word is an option, or the one that ends them."""
+    return word.startswith("-") and word != "-"
 
 
 def option_value(command, option, value):
@@ -109,7 +117,7 @@ class Second:
     def __init__(self, folder, most_steps=10_000_000):
         self.folder = Path(folder)
         self.most_steps = most_steps
-        self.kept = {}
+        self.trees, self.kept = {}, {}
 
     def bytes_of(self, name):
         try:
@@ -126,12 +134,15 @@ class Second:
             raise Ends(4, f"input {name} kind {refused.kind} row {refused.row}") from None
 
     def tree(self, name):
-        try:
-            made = program(self.bytes_of(name))
-            check(made)
-        except Refused as refused:
-            raise Ends(3, str(refused)) from None
-        return made
+        source = self.bytes_of(name)
+        if source not in self.trees:
+            try:
+                made = program(source)
+                check(made)
+            except Refused as refused:
+                raise Ends(3, str(refused)) from None
+            self.trees[source] = made
+        return source, self.trees[source]
 
     def files(self, made):
         """The rows of the files that a program names, in declared order."""
@@ -144,10 +155,10 @@ class Second:
                 cells += head.fields * len(found[head.name])
         return found
 
-    def batch(self, made, files, options, log=()):
-        key = repr((made, files, options.get("--turns"), options.get("--subthreads"), log))
+    def batch(self, source, made, files, options, log=()):
+        limits = options.get("--turns", 1_000_000), options.get("--subthreads", 100_000)
+        key = source, repr(files), *limits, repr(log)
         if key not in self.kept:
-            limits = options.get("--turns", 1_000_000), options.get("--subthreads", 100_000)
             self.kept[key] = Batch(made, files, *limits, self.most_steps, log)
         return self.kept[key]
 
@@ -166,15 +177,15 @@ class Second:
             return ends.answer
 
     def call(self, command, names, options):
-        made = self.tree(names[0])
+        source, made = self.tree(names[0])
         if command == "check":
             return Answer(0, b"ok\n")
         files = self.files(made)
         listed = self.read(options["--faults"], rows.faults) if "--faults" in options else []
         if command == "resume":
-            return self.resume(made, files, names[1], options)
+            return self.resume(source, made, files, names[1], options)
         trace = self.read(names[1], rows.trace) if command == "audit" else None
-        batch = self.batch(made, files, options)
+        batch = self.batch(source, made, files, options)
         if command == "audit":
             line, status = audit.verdict(batch.subthreads, listed, trace)
             return Answer(status, f"{line}\n".encode())
@@ -187,10 +198,10 @@ class Second:
             err = TraceOf(batch.subthreads, listed)
         return Answer(self.status(batch), out, err)
 
-    def resume(self, made, files, name, options):
+    def resume(self, source, made, files, name, options):
         kept, bad = self.read(name, rows.log)
         try:
-            batch = self.batch(made, files, options, kept)
+            batch = self.batch(source, made, files, options, kept)
         except rows.RowRefused as refused:
             raise Ends(4, f"input {name} kind {refused.kind} row {refused.row}") from None
         if bad is not None:

@@ -32,6 +32,9 @@ TOKEN = re.compile(
     re.VERBOSE,
 )
 
+# What a token may begin with that does not come to its end. The byte after it is told.
+STARTED = re.compile(r"""\$|!|"[\x20\x21\x23-\x7e]*|""")
+
 COMPARISONS = ("==", "!=", "<", "<=", ">", ">=")
 
 
@@ -89,7 +92,6 @@ class Task:
     parameters: list = field(default_factory=list)
     variables: list = field(default_factory=list)
     body: list = field(default_factory=list)
-    end_line: int = 0
 
 
 @dataclass
@@ -107,9 +109,11 @@ def tokens(source):
     while at < len(text):
         match = TOKEN.match(text, at)
         if match is None:
-            raise Refused(f"lex 1 at byte {at}")
+            raise Refused(f"lex 1 at byte {STARTED.match(text, at).end()}")
         kind, value = match.lastgroup, match.group()
-        if kind == "data":
+        if kind == "gap":
+            line += value.count("\n")
+        elif kind == "data":
             found.append(Token("DNAME", value[1:], at, line))
         elif kind == "name":
             found.append(Token(value if value in RESERVED else "NAME", value, at, line))
@@ -121,7 +125,6 @@ def tokens(source):
             found.append(Token("TEXT", value[1:-1], at, line))
         elif kind == "sign":
             found.append(Token(value, value, at, line))
-        line += value.count("\n")
         at = match.end()
     return found + [Token("END", None, len(text), line)]
 
@@ -160,11 +163,12 @@ class Parser:
         return False
 
     def opens(self, kind):
-        """Takes a token that opens a level."""
+        """Takes a token that opens a level, and answers its value."""
         if self.kind == kind and self.levels == MOST_LEVELS:
             self.refuse(2)
-        self.take(kind)
+        value = self.take(kind)
         self.levels += 1
+        return value
 
     def closes(self, kind):
         self.take(kind)
@@ -219,14 +223,13 @@ class Parser:
         if self.kind != ")":
             task.parameters = self.some(self.parameter)
         self.take(")")
-        self.opens("{")
+        self.take("{")
         while self.takes("var"):
             task.variables += self.some(self.parameter)
             self.take(";")
         while self.kind != "}":
             task.body.append(self.statement())
-        task.end_line = self.line
-        self.closes("}")
+        self.take("}")
         return task
 
     def parameter(self):
@@ -361,10 +364,10 @@ class Parser:
             made = self.expression()
             self.closes(")")
             return made
-        name = self.take("NAME")
-        if self.kind != "[":
-            return "name", name
-        self.opens("[")
+        if self.kind != "NAME" or self.found[self.at + 1].kind != "[":
+            return "name", self.take("NAME")
+        name = self.opens("NAME")
+        self.take("[")
         row = self.expression()
         self.take(",")
         column = self.expression()
