@@ -28,8 +28,8 @@ from second import CREWS, Answer, Second, TraceOf
 
 TOP = Path(__file__).resolve().parents[2]
 MOST_STEPS = 6_000
-MOST_SMALLER = 10
-MOST_TRIES = 400
+MOST_SMALLER = 4
+MOST_TRIES = 250
 SECONDS = 60
 
 
@@ -130,56 +130,78 @@ class Comparison:
     def smaller(self, case):
         """A case from which nothing can be left out, as far as the tries go."""
         tries = MOST_TRIES
-        again = True
-        while again:
-            again = False
-            for other in smaller_cases(case):
-                tries -= 1
-                if tries < 0:
-                    return case
-                if self.differs(other):
-                    case, again = other, True
-                    break
+
+        def without(cut):
+            """Cuts something off, if the two differ still."""
+            nonlocal case, tries
+            other = cut(case)
+            if other is None or other == case or tries == 0:
+                return False
+            tries -= 1
+            if not self.differs(other):
+                return False
+            case = other
+            return True
+
+        before = None
+        while case != before and tries:
+            before = case
+            for name, _ in case.files:
+                if name not in case.words:
+                    without(lambda this: replace(this, files=tuple(item for item in this.files if item[0] != name)))
+            for at in reversed(range(1, len(case.words))):
+                if case.words[at].startswith("--"):
+                    without(lambda this: without_option(this, at))
+            for name, data in sorted(case.files, key=lambda item: -len(item[1])):
+                size = data.count(b"\n") + 1
+                while size:
+                    at = 0
+                    while at < len(dict(case.files)[name].split(b"\n")):
+                        if not any(without(lambda this: without_lines(this, name, at, size, cut)) for cut in (cut_lines, cut_block, cut_ends)):
+                            at += size
+                    size //= 2
         return case
 
 
-def smaller_cases(case):
-    """What is left of a case without some of its files, words, and lines."""
-    words, files = case.words, dict(case.files)
-    for name in files:
-        if name not in words and not any(name.encode() in data for data in files.values()):
-            yield replace(case, files=tuple(item for item in case.files if item[0] != name))
-    for at, word in enumerate(words):
-        if word.startswith("--") and at > 0:
-            for count in (2, 1):
-                if not any(other.startswith("--") for other in words[at + 1:at + count]):
-                    yield replace(case, words=words[:at] + words[at + count:])
-    for name in sorted(files, key=lambda name: -len(files[name])):
-        lines = files[name].split(b"\n")
-        for kept in fewer_lines(lines):
-            yield replace(case, files=tuple((other, b"\n".join(kept) if other == name else data) for other, data in case.files))
+def without_option(case, at):
+    """A call without one of its options, and its value."""
+    count = 1 if "=" in case.words[at] or case.words[at] == "--trace" else 2
+    return replace(case, words=case.words[:at] + case.words[at + count:])
 
 
-def fewer_lines(lines):
-    """A list of lines without some of them: blocks of a program go whole, or their first and last lines alone."""
-    size = len(lines)
-    while size:
-        for at in range(0, len(lines), size):
-            cut = lines[at:at + size]
-            if sum(line.count(b"{") - line.count(b"}") for line in cut) == 0:
-                yield lines[:at] + lines[at + size:]
-        size //= 2
-    for at, line in enumerate(lines):
-        if line.rstrip().endswith(b"{"):
-            level, end = 0, at
-            while end < len(lines):
-                level += lines[end].count(b"{") - lines[end].count(b"}")
-                if level <= 0:
-                    break
-                end += 1
-            if end < len(lines):
-                yield lines[:at] + lines[end + 1:]
-                yield lines[:at] + lines[at + 1:end] + lines[end + 1:]
+def without_lines(case, name, at, size, cut):
+    """A case without some of the lines of a file, or None."""
+    lines = cut(dict(case.files)[name].split(b"\n"), at, size)
+    if lines is None:
+        return None
+    return replace(case, files=tuple((other, b"\n".join(lines) if other == name else data) for other, data in case.files))
+
+
+def levels(lines):
+    return sum(line.count(b"{") - line.count(b"}") for line in lines)
+
+
+def cut_lines(lines, at, size):
+    """Without so many lines, which open as many blocks as they close."""
+    return None if levels(lines[at:at + size]) else lines[:at] + lines[at + size:]
+
+
+def end_of_block(lines, at, size):
+    """The line that ends the block which this line opens, where one line is looked at."""
+    if size == 1 and levels([lines[at]]) > 0:
+        return next((end for end in range(at, len(lines)) if levels(lines[at:end + 1]) <= 0), None)
+    return None
+
+
+def cut_block(lines, at, size):
+    end = end_of_block(lines, at, size)
+    return None if end is None else lines[:at] + lines[end + 1:]
+
+
+def cut_ends(lines, at, size):
+    """Without the first and the last line of a block."""
+    end = end_of_block(lines, at, size)
+    return None if end is None else lines[:at] + lines[at + 1:end] + lines[end + 1:]
 
 
 def calls_of(comparison, draw, number, folder):
