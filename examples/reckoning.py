@@ -10,6 +10,7 @@ Beside each NAME.gp stands a NAME.py that prints what NAME.out holds. Run it in 
 """
 
 import sys
+from bisect import bisect_right
 from dataclasses import dataclass
 
 
@@ -57,7 +58,18 @@ class Settle:
     """Makes a number of the data one of control; the thread has it at hand when the yield answers."""
 
 
+@dataclass(frozen=True)
+class Missing:
+    """Stands before a statement that names a feed cell or a lock that is not there; no yield answers."""
+
+
+@dataclass(frozen=True)
+class Looping:
+    """Stands before a loop turn that is one more than a subthread may take; no yield answers."""
+
+
 START = object()
+MOST_THREADS = 4_096
 
 
 class Named:
@@ -112,44 +124,74 @@ class Thread:
 
 @dataclass(frozen=True)
 class Subthread:
-    """What a subthread reads and writes, and whether it begins with a settle."""
+    """What a subthread reads and writes, whether it begins with a settle, and its thread."""
 
     reads: frozenset
     writes: frozenset
     settles: bool
+    thread: int
 
     def clashes(self, other):
-        return bool(self.writes & (other.reads | other.writes) or self.reads & other.writes)
+        return not (self.writes.isdisjoint(other.reads) and self.writes.isdisjoint(other.writes) and self.reads.isdisjoint(other.writes))
+
+
+@dataclass(frozen=True)
+class End:
+    """How a run ends: finished, spent at a position or at the limit on subthreads, or stuck, told of a thread."""
+
+    how: str
+    number: int = 0
 
 
 class Order:
-    """The subthreads of a batch, in order."""
+    """The subthreads of a batch, in order, and how the run ends."""
 
-    def __init__(self, main):
+    def __init__(self, main, most_subthreads=100_000):
+        self.most_subthreads = most_subthreads
         self.threads = [Thread(main())]
+        self.live = [0]
         self.owners = {}
         self.subthreads = []
-        self.take_turns()
+        self.end = self.take_turns()
 
     def take_turns(self):
-        """Lets the token go round until every thread has ended."""
+        """Lets the token go round until every thread has ended, or the run ends before. Answers how it ends."""
         passed = set()
         thread = 0
         while thread is not None:
-            assert thread not in passed, "the batch is stuck"
+            if thread in passed:
+                return End("stuck deadlock", self.live[0])
+            end = self.ends(thread)
+            if end is not None:
+                return end
             arrives = self.arrives(thread)
             if self.can_go_on(thread):
+                if len(self.subthreads) == self.most_subthreads:
+                    return End("spent", self.most_subthreads)
                 self.issue(thread)
                 passed = set()
             else:
                 passed = {thread} if arrives else passed | {thread}
             thread = self.after(thread)
+        return End("finished")
 
     def after(self, thread):
         """The first thread after this one that has not ended."""
-        count = len(self.threads)
-        ring = [(thread + step) % count for step in range(1, count + 1)]
-        return next((other for other in ring if not self.threads[other].has_ended()), None)
+        place = bisect_right(self.live, thread)
+        return (self.live[place:place + 1] or self.live[:1] or [None])[0]
+
+    def ends(self, thread):
+        """How the run ends at the turn of this thread, if its next synchronisation ends it."""
+        sync = self.threads[thread].next
+        if isinstance(sync, Missing):
+            return End("stuck index", thread)
+        if isinstance(sync, Looping):
+            return End("spent", max(position for position, this in enumerate(self.subthreads) if this.thread == thread))
+        if isinstance(sync, Join) and not 0 <= sync.thread < len(self.threads):
+            return End("stuck join", thread)
+        if isinstance(sync, Fork) and len(self.threads) == MOST_THREADS:
+            return End("stuck threads", thread)
+        return None
 
     def arrives(self, thread):
         """Whether the thread comes to its barrier now. If enough threads wait there then, all of them are released."""
@@ -185,6 +227,7 @@ class Order:
         elif isinstance(sync, Fork):
             answer = len(self.threads)
             self.threads.append(Thread(sync.task(*sync.arguments)))
+            self.live.append(answer)
             writes.add(("thread", answer))
         elif isinstance(sync, Join):
             answer = self.threads[sync.thread].result
@@ -192,15 +235,21 @@ class Order:
         this.arrived = this.released = False
         Named.begin()
         this.run(answer)
-        self.subthreads.append(Subthread(frozenset(reads | Named.reads), frozenset(writes | Named.writes), isinstance(sync, Settle)))
+        if this.has_ended():
+            self.live.remove(thread)
+        settles = isinstance(sync, Settle)
+        self.subthreads.append(Subthread(frozenset(reads | Named.reads), frozenset(writes | Named.writes), settles, thread))
 
 
 def dependents(subthreads, struck, front):
     """The struck position and each later one below the front that clashes with one of them."""
     found = [struck]
+    reads, writes = set(subthreads[struck].reads), set(subthreads[struck].writes)
     for later in range(struck + 1, front):
-        if any(subthreads[earlier].clashes(subthreads[later]) for earlier in found):
+        if Subthread(reads, writes, False, 0).clashes(subthreads[later]):
             found.append(later)
+            reads |= subthreads[later].reads
+            writes |= subthreads[later].writes
     return found
 
 
@@ -272,25 +321,35 @@ def remainder(number, divisor):
     return number - quotient(number, divisor) * divisor
 
 
+def text(printed, end, records, subthreads, made, listed):
+    """The lines of a run's text: `end` is the line of a run that does not finish, and "" for one that does."""
+    yield "output"
+    for line in printed:
+        yield " ".join(map(str, line))
+    if end:
+        yield end
+    else:
+        yield "records"
+        for name, values in records.items():
+            yield " ".join([f"{name}:", *map(str, values)])
+    yield "restarts"
+    for number, (front, struck, tried, redo) in enumerate(made, 1):
+        yield " ".join([f"{number}: front {front} struck {struck} try {tried} redo", *map(str, redo)])
+    yield "counts"
+    yield f"subthreads {len(subthreads)}"
+    yield f"restarts {len(made)}"
+    yield f"redone {sum(len(redo) for _, _, _, redo in made)}"
+    yield f"unused {len(listed) - len(made)}"
+
+
 def publish(main, printed, records, faults=None):
     """Runs the batch and prints its text. `printed` and `records` are read after the run: lists of numbers, and lists by name.
 
     With the words `--every N` it is the text of a run that goes back to copies, which were taken before each Nth subthread."""
-    subthreads = Order(main).subthreads
+    order = Order(main)
+    assert order.end == End("finished"), order.end
     listed = rows(faults) if faults else []
     redone = rolled_back(int(sys.argv[2])) if sys.argv[1:2] == ["--every"] else dependents
-    made = restarts(subthreads, listed, redone)
-    print("output")
-    for line in printed:
-        print(*line)
-    print("records")
-    for name, values in records.items():
-        print(f"{name}:", *values)
-    print("restarts")
-    for number, (front, struck, tried, redo) in enumerate(made, 1):
-        print(f"{number}: front {front} struck {struck} try {tried} redo", *redo)
-    print("counts")
-    print("subthreads", len(subthreads))
-    print("restarts", len(made))
-    print("redone", sum(len(redo) for _, _, _, redo in made))
-    print("unused", len(listed) - len(made))
+    made = restarts(order.subthreads, listed, redone)
+    for line in text(printed, "", records, order.subthreads, made, listed):
+        print(line)

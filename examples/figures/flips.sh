@@ -8,13 +8,11 @@ cd "$(dirname "$(readlink -f "${BASH_SOURCE[0]}")")/.." || exit 1
 heavy="${1:-1000}"
 light="${2:-5000}"
 top="$PWD/.."
-for program in gprs gprs_twice; do
-    [ -x "$top/crates/$program/out/$program" ] || { echo "$0: $program is not built: run ./$program first" >&2; exit 1; }
-done
 command -v python3 >/dev/null || { echo "$0: passed over, since python3 is not there" >&2; exit 0; }
 
 made="$(mktemp -d)"
 trap 'rm -rf "$made"' EXIT
+"$top/.ci/release" --links "$made" || exit 1
 sed 's/500000/100000/' simulation.gp >"$made/heavy.gp"
 soak/make.sh 20000 1 "$made" || exit 1
 
@@ -24,8 +22,8 @@ calls() {
     for where in "" --memory; do
         for crew in one wave; do
             for program in gprs gprs_twice; do
-                echo "--count $heavy $where $top/crates/$program/out/$program run heavy.gp --crew $crew"
-                echo "--count $light $where $top/crates/$program/out/$program run soak.gp --crew $crew"
+                echo "--count $heavy $where $made/$program run heavy.gp --crew $crew"
+                echo "--count $light $where $made/$program run soak.gp --crew $crew"
             done
         done
     done

@@ -6,8 +6,8 @@
 set -eu
 cd "$(dirname "$(readlink -f "${BASH_SOURCE[0]}")")"
 
-gprs="${GPRS:-$PWD/../../crates/gprs/out/gprs}"
-[ -x "$gprs" ] || { echo "$0: not built: run ./gprs first" >&2; exit 1; }
+gprs="${GPRS:-$(../../.ci/release --path gprs)}"
+[ -x "$gprs" ] || exit 1
 runs="${RUNS:-5}"
 soak="$PWD/../soak/make.sh"
 made="$(mktemp -d)"

@@ -6,8 +6,7 @@
 set -eu
 cd "$(dirname "$(readlink -f "${BASH_SOURCE[0]}")")"
 
-built="$PWD/../../crates/gprs/out/gprs"
-[ -x "$built" ] || { echo "$0: not built: run ./gprs first" >&2; exit 1; }
+built="$(../../.ci/release --path gprs)" || exit 1
 if [ $# -gt 0 ]; then crews=("$@"); else crews=(one wave board steal); fi
 
 made="$(mktemp -d)"

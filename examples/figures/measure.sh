@@ -7,8 +7,7 @@ cd "$(dirname "$(readlink -f "${BASH_SOURCE[0]}")")/.."
 
 busy="${1:-0}"
 crew="${2:-wave}"
-gprs="$PWD/../crates/gprs/out/gprs"
-[ -x "$gprs" ] || { echo "$0: not built: run ./gprs first" >&2; exit 1; }
+gprs="$(../.ci/release --path gprs)" || exit 1
 
 made="$(mktemp -d)"
 counting=()

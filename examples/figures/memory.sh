@@ -8,8 +8,7 @@
 set -u
 cd "$(dirname "$(readlink -f "${BASH_SOURCE[0]}")")" || exit 1
 
-built="$PWD/../../crates/gprs/out/gprs"
-[ -x "$built" ] || { echo "$0: not built: run ./gprs first" >&2; exit 1; }
+built="$(../../.ci/release --path gprs)" || exit 1
 command -v cc >/dev/null || { echo "$0: passed over, since cc is not there" >&2; exit 0; }
 
 made="$(mktemp -d)"

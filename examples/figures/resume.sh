@@ -5,8 +5,7 @@
 set -eu
 cd "$(dirname "$(readlink -f "${BASH_SOURCE[0]}")")/.."
 
-gprs="$PWD/../crates/gprs/out/gprs"
-[ -x "$gprs" ] || { echo "$0: not built: run ./gprs first" >&2; exit 1; }
+gprs="$(../.ci/release --path gprs)" || exit 1
 made="$(mktemp -d)"
 trap 'rm -rf "$made"' EXIT
 

@@ -6,8 +6,7 @@ set -eu
 cd "$(dirname "$(readlink -f "${BASH_SOURCE[0]}")")/.."
 
 crew="${1:-one}"
-gprs="$PWD/../crates/gprs/out/gprs"
-[ -x "$gprs" ] || { echo "$0: not built: run ./gprs first" >&2; exit 1; }
+gprs="$(../.ci/release --path gprs)" || exit 1
 made="$(mktemp -d)"
 trap 'rm -rf "$made"' EXIT
 

@@ -357,7 +357,6 @@ fn a_run_that_ends_otherwise_ends_as_it_is(rt: HostRuntime) -> Result<(), Fail> 
     )
 }
 
-// Also where an allocation is refused, which is no difference.
 #[test]
 fn no_difference_is_told_where_nothing_is_disturbed(rt: HostRuntime) -> Result<(), Fail> {
     for crew in &CREWS {
@@ -365,7 +364,7 @@ fn no_difference_is_told_where_nothing_is_disturbed(rt: HostRuntime) -> Result<(
         for program in [ADD, FED, COUNTED] {
             let answer = answer_under(&rt, program, &words, Recheck::twice(rt.alloc()))?;
             let is_told = answer.recheck.differed() > 0 || answer.recheck.has_stopped();
-            if is_told || !(answer.status == 0 || answer.status == 1) {
+            if is_told || answer.status != 0 || !answer.error.written().is_empty() {
                 return Err(Fail::from("a difference is told, or another status"));
             }
         }

@@ -1,21 +1,6 @@
-//! Tests of the top call of `gprs_view`: runs as they are shown, and words, programs and traces that are refused.
+//! Tests of the top calls of `gprs_view` over devices in memory, which fail or do not. What these calls tell is compared by the
+//! built program, with `examples/mistakes`.
 #![tactic(auto)]
 
 #[cfg(test)]
-mod blamed;
-#[cfg(test)]
-mod calls;
-#[cfg(test)]
-mod causes;
-#[cfg(test)]
-mod explained;
-#[cfg(test)]
-mod meant;
-#[cfg(test)]
-mod mistakes;
-#[cfg(test)]
-mod refused;
-#[cfg(test)]
-mod spent;
-#[cfg(test)]
-mod views;
+mod devices;
