@@ -31,21 +31,21 @@ const STARTS: &str = "task t() { }\ntask main() { fork t(); }";
 const BAD: &str = "task main() { i = ; }";
 
 const TOLD: &str = "ok
-1 subthread, 1 thread, 0 locks taken; at most 1 subthread side by side, as threads, locks, forks and joins allow
+1 subthread, 1 thread, 0 locks taken; at most 1 subthread side by side, as the order of turns allows
 arithmetic: exact in every line that ran
 ";
 
 const ITSELF_TOLD: &str = "stuck deadlock thread 0 line 1
 thread 0 line 1 waits for thread 0 to end
 hint: thread 0 joins itself: 0 is main, and the forks make threads 1, 2 and so on
-1 subthread, 1 thread, 0 locks taken; at most 1 subthread side by side, as threads, locks, forks and joins allow
+1 subthread, 1 thread, 0 locks taken; at most 1 subthread side by side, as the order of turns allows
 arithmetic: exact in every line that ran
 ";
 
 const SPENT_TOLD: &str = "spent 1
 1 subthread was begun; thread 0 line 2 would begin one more
 hint: --subthreads allows up to 200000, for a batch that ends
-1 subthread, 1 thread, 0 locks taken; at most 1 subthread side by side, as threads, locks, forks and joins allow
+1 subthread, 1 thread, 0 locks taken; at most 1 subthread side by side, as the order of turns allows
 arithmetic: exact in every line that ran
 ";
 
