@@ -102,8 +102,7 @@ const FAULT_LINE: &str = "gprs_view: write fault\n";
 
 const SOUND: [u64; 3] = [0, 0, 0];
 
-// A file that is refused is read a second time, which is the third call of the shelf.
-const EXPLAINED: [Row; 12] = [
+const EXPLAINED: [Row; 11] = [
     ("explain p.gp", FEED, "1,2\n", SOUND, 0, TOLD, ""),
     ("explain p.gp", ITSELF, "", SOUND, 5, ITSELF_TOLD, ""),
     (
@@ -140,15 +139,6 @@ const EXPLAINED: [Row; 12] = [
         FEED,
         "",
         [2, 0, 0],
-        7,
-        UNREAD_ROWS,
-        ROWS_LINE,
-    ),
-    (
-        "explain p.gp",
-        FEED,
-        "a,b\n",
-        [3, 0, 0],
         7,
         UNREAD_ROWS,
         ROWS_LINE,
