@@ -1,6 +1,6 @@
 #!/usr/bin/env bash
 # memory.sh [WORD ..]: refuses each allocation of a run in turn. It runs these words on the batch of the folder faults (where none is given: `run` by
-# each crew, `ckpt`, `log`, `resume` and `audit`), again and again, and in run N the Nth call for memory is refused, and no other. N goes from 1 on, until
+# each crew and with a trace, `ckpt`, `log`, `resume` and `audit`), again and again, and in run N the Nth call for memory is refused, and no other. N goes from 1 on, until
 # 60 runs in a row ended as if nothing were refused: all their calls for memory were made by then. Each run has to end within 20 seconds, with status 0
 # and all bytes, or with status 1, its line on the error stream and a part of the output from its beginning. It prints a line for each row of words: how
 # many runs there were, and how many of them ended with status 1. The program has to be built, and a C compiler be there, since an allocator is put under
@@ -119,6 +119,7 @@ if [ $# -gt 0 ]; then
 else
     ./gprs run add.gp --faults faults.csv --trace >whole.out 2>trace.txt || breaks "the trace can't be made"
     for crew in one wave board steal pipe; do each run add.gp --faults faults.csv --crew "$crew" --workers 4; done
+    each run add.gp --faults faults.csv --crew one --trace
     each ckpt add.gp --faults faults.csv --every 4
     each log add.gp --faults faults.csv
     each resume add.gp part.log

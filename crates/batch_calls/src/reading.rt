@@ -1,7 +1,7 @@
 // What words ask for, however they are read.
 ghost use Rattle.std.specs.Prelude.{◌≡◌, ℕ, List, Option, is_some, IfOk, IfSome};
 ghost use Rattle.std.specs.Bool.{Decides};
-ghost use Rattle.call_cases.specs.declared.agreed.Reading as reading;
+ghost use Rattle.call_cases.specs.declared.agreed.Reading.TheVariants as reading;
 ghost use Rattle.command_line.specs.Words.{IsWithinLimits};
 ghost use Rattle.command_line.specs.declared.asked.Asked.{Asked};
 ghost use Rattle.call_cases.specs.Decided.{MayRun};

@@ -7,65 +7,72 @@ use task_ast::SyncOp;
 use text_pieces::Piece::{Number, Word};
 use text_pieces::push_pieces;
 
-// The levels of subthreads: one more than that of the last of its thread, of each lock that it holds, and of the thread
-// that it joins or whose fork it is. For each thread, and each lock, the level that comes next; how many subthreads each
-// level has; and the most of one level.
+// How many subthreads can be out at one moment. A thread begins its next subthread once the token has come round to it: it has
+// looked at each thread since the last one of that thread began, so that one and all before it are done. A settle waits for
+// all before it. From `first` on stand those that can be out still. `after` has for each thread the position after its last
+// subthread, or after its fork.
 #[derive(Drop)]
-struct Levels {
-    threads: Vec<u32>,
-    locks: Vec<u32>,
-    widths: Vec<u32>,
+struct Moments {
+    after: Vec<u32>,
+    begun: u32,
+    first: u32,
     widest: u32,
 }
 
-impl Levels {
-    fn new(alloc: Global) -> Levels {
-        Levels {
-            threads: Vec::new(alloc),
-            locks: Vec::new(alloc),
-            widths: Vec::new(alloc),
+impl Moments {
+    fn new(alloc: Global) -> Moments {
+        Moments {
+            after: Vec::new(alloc),
+            begun: 0,
+            first: 0,
             widest: 0,
         }
     }
 
-    // The level of a subthread by those before it.
-    fn level_of(&self, step: &Step) -> u32 {
-        let mut level = at(&self.threads, step.thread.0 as usize);
-        for lock in step.held.as_slice() {
-            level = level.max(at(&self.locks, lock.0 as usize));
+    // The position after the last subthread of the thread with this number, or 0.
+    fn after_thread(&self, number: i64) -> u32 {
+        match usize::try_from(number) {
+            Ok(thread) => at(&self.after, thread),
+            Err(_) => 0,
         }
-        if let SyncOp::Join(thread) = &step.begins.sync {
-            if let Ok(thread) = usize::try_from(*thread) {
-                level = level.max(at(&self.threads, thread));
-            }
-        }
-        level
     }
 
-    // One subthread more.
+    // One subthread more. That which it waits for besides, its fork or the last of a thread that it joins, isn't out beside it.
     fn note(&mut self, step: &Step) -> Result<(), AllocError> {
-        let level = self.level_of(step);
-        let next = level.saturating_add(1);
-        put(&mut self.threads, step.thread.0 as usize, next)?;
-        for lock in step.held.as_slice() {
-            put(&mut self.locks, lock.0 as usize, next)?;
+        let thread = step.thread.0 as usize;
+        let own = at(&self.after, thread);
+        let (least, awaited) = match &step.begins.sync {
+            SyncOp::Start => (0, own),
+            SyncOp::Join(number) => (own, self.after_thread(*number)),
+            SyncOp::Settle { .. } => (self.begun, 0),
+            _ => (own, 0),
+        };
+        self.first = self.first.max(least);
+        if awaited == self.first.saturating_add(1) {
+            self.first = awaited;
         }
+        let next = self.begun.saturating_add(1);
+        let mut out = next.saturating_sub(self.first);
+        if awaited > self.first {
+            out = out.saturating_sub(1);
+        }
+        self.widest = self.widest.max(out);
+        self.begun = next;
+        put(&mut self.after, thread, next)?;
         if let Some(child) = child_of(step) {
-            put(&mut self.threads, child.0 as usize, next)?;
+            put(&mut self.after, child.0 as usize, next)?;
         }
-        let width = at(&self.widths, level as usize).saturating_add(1);
-        self.widest = self.widest.max(width);
-        put(&mut self.widths, level as usize, width)
+        Ok(())
     }
 }
 
-// The most subthreads of one level.
+// The most subthreads that can be out at one moment.
 fn widest(alloc: Global, order: &[Step]) -> Result<u32, AllocError> {
-    let mut levels = Levels::new(alloc);
+    let mut moments = Moments::new(alloc);
     for step in order {
-        levels.note(step)?;
+        moments.note(step)?;
     }
-    Ok(levels.widest)
+    Ok(moments.widest)
 }
 
 // How many of these steps begin a thread, and how many take a lock.
@@ -82,8 +89,8 @@ fn counted(order: &[Step]) -> (u64, u64) {
     (threads, locks)
 }
 
-/// Appends how many subthreads, threads and locks a run had, and the most subthreads of one level. The error is that memory is
-/// out.
+/// Appends how many subthreads, threads and locks a run had, and how many subthreads can be out at one moment at most. The error
+/// is that memory is out.
 pub fn push_counts(alloc: Global, text: &mut Vec<u8>, order: &[Step]) -> Result<(), AllocError> {
     let widest = u64::from(widest(alloc, order)?);
     let count = order.len() as u64;
@@ -106,7 +113,7 @@ pub fn push_counts(alloc: Global, text: &mut Vec<u8>, order: &[Step]) -> Result<
             Number(widest),
             Word(b" subthread"),
             plural(widest),
-            Word(b" side by side, as threads, locks, forks and joins allow\n"),
+            Word(b" side by side, as the order of turns allows\n"),
         ],
     )
 }

@@ -31,21 +31,21 @@ const STARTS: &str = "task t() { }\ntask main() { fork t(); }";
 const BAD: &str = "task main() { i = ; }";
 
 const TOLD: &str = "ok
-1 subthread, 1 thread, 0 locks taken; at most 1 subthread side by side, as threads, locks, forks and joins allow
+1 subthread, 1 thread, 0 locks taken; at most 1 subthread side by side, as the order of turns allows
 arithmetic: exact in every line that ran
 ";
 
 const ITSELF_TOLD: &str = "stuck deadlock thread 0 line 1
 thread 0 line 1 waits for thread 0 to end
 hint: thread 0 joins itself: 0 is main, and the forks make threads 1, 2 and so on
-1 subthread, 1 thread, 0 locks taken; at most 1 subthread side by side, as threads, locks, forks and joins allow
+1 subthread, 1 thread, 0 locks taken; at most 1 subthread side by side, as the order of turns allows
 arithmetic: exact in every line that ran
 ";
 
 const SPENT_TOLD: &str = "spent 1
 1 subthread was begun; thread 0 line 2 would begin one more
 hint: --subthreads allows up to 200000, for a batch that ends
-1 subthread, 1 thread, 0 locks taken; at most 1 subthread side by side, as threads, locks, forks and joins allow
+1 subthread, 1 thread, 0 locks taken; at most 1 subthread side by side, as the order of turns allows
 arithmetic: exact in every line that ran
 ";
 
@@ -102,8 +102,7 @@ const FAULT_LINE: &str = "gprs_view: write fault\n";
 
 const SOUND: [u64; 3] = [0, 0, 0];
 
-// A file that is refused is read a second time, which is the third call of the shelf.
-const EXPLAINED: [Row; 12] = [
+const EXPLAINED: [Row; 11] = [
     ("explain p.gp", FEED, "1,2\n", SOUND, 0, TOLD, ""),
     ("explain p.gp", ITSELF, "", SOUND, 5, ITSELF_TOLD, ""),
     (
@@ -140,15 +139,6 @@ const EXPLAINED: [Row; 12] = [
         FEED,
         "",
         [2, 0, 0],
-        7,
-        UNREAD_ROWS,
-        ROWS_LINE,
-    ),
-    (
-        "explain p.gp",
-        FEED,
-        "a,b\n",
-        [3, 0, 0],
         7,
         UNREAD_ROWS,
         ROWS_LINE,
