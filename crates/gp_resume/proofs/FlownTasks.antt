@@ -117,6 +117,7 @@ module _ (plan : ResumePlan) (suits : IsSuited plan) (f : Flown) (flown : IsFlow
         within = subst (λ (locks : List ℕ). AllName (is_under (under_of plan.work.now) locks)
             (actions_from plan.work.now task.begins.sync task.child (place_of task))) (sym locks-are)
             (subst (AllName (is_under (under_of plan.work.now) s.held)) (sym actions-are) flown.keeps);
+        spared = suits.spared;
       }
 
   -- a run of it
