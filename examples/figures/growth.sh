@@ -1,8 +1,10 @@
 #!/usr/bin/env bash
-# growth.sh [ROW ..]: how the time of a run grows with its batch. Each row (those of `named` below, or all) is a batch at a quarter of its size, at half
-# and at its size, and has a line for each of the calls that run it: the milliseconds at the three sizes, by user and system time less those of an empty
-# batch, the best of five runs (RUNS is another number of them), and the last over the one before: 2 is linear. What the calls of a row print has to be the
-# same, but for what they tell of restarts. The program has to be built; GPRS names another one.
+# growth.sh [ROW ..]: how the time of a run grows with its batch. Each row (those of `named` below, or all) is a batch at a quarter of its size, at half and at its
+# size, and has a line for each of the calls that run it: the milliseconds of a run at the three sizes, by user and system time less that of an empty batch, the best
+# of five measurements (RUNS is another number of them); the last over the one before (2 is linear); how the work itself grows there, and by how much the time
+# grows more. A measurement has so many runs that it takes 50 milliseconds at the half. The work is what runs, subthreads and those that are redone, by the
+# counts that the call prints; of `held` it is the locks that all subthreads hold, and of `copies` the cells. What the calls of a row print has to be the same, but
+# for what they tell of restarts. The program has to be built; GPRS names another one.
 set -eu
 cd "$(dirname "$(readlink -f "${BASH_SOURCE[0]}")")"
 
@@ -68,6 +70,12 @@ blocks() {
 chain() {
     { echo 'lock gate[1]; task main() { var w;'; work "$1"; echo '}'; } >batch.gp
     faults_at 3 200 64 >faults.csv
+}
+
+# 8,000 subthreads of one thread, all of which depend on an early one, at which there are so many faults.
+struck() {
+    { echo 'lock gate[1]; task main() { var w;'; work 8000; echo '}'; } >batch.gp
+    faults_at 3 "$1" 64 >faults.csv
 }
 
 # So many subthreads of two threads that share nothing. One of them has 100 faults at its first lock: half of all is redone, and half is not.
@@ -172,11 +180,12 @@ task main() { var w, \$x; while w < 100 { lock guard[0]; read account[0] into \$
 END
 }
 
-# The least user and system time of runs by these words, in milliseconds; what they print stays in the file out.
+# The least user and system time of so many runs by these words, in milliseconds; what they print stays in the file out.
 least() {
-    local best="" took run TIMEFORMAT='%3U %3S'
+    local best="" took run count="$1" each TIMEFORMAT='%3U %3S'
+    shift
     for ((run = 0; run < runs; run++)); do
-        took="$({ time "$gprs" "$@" >out 2>told; } 2>&1)"
+        took="$({ time for ((each = 0; each < count; each++)); do "$gprs" "$@" >out 2>>told; done; } 2>&1)"
         [ ! -s told ] || { echo "$0: $PWD: $*: $(head -c 200 told)" >&2; exit 1; }
         took="$(awk -v took="$took" 'BEGIN { split(took, part, " "); printf "%d", (part[1] + part[2]) * 1000 + 0.5 }')"
         [ -n "$best" ] && [ "$best" -le "$took" ] || best=$took
@@ -184,17 +193,34 @@ least() {
     echo "$best"
 }
 
-# The milliseconds at each size, less those of an empty batch, and the growth from half to the whole.
+# The work of the row at a part of its size, by what the last run there printed.
+work_of() {
+    case "$1" in
+        held) echo $((size * size / (part * part))) ;;
+        copies) echo $((size / part)) ;;
+        *) awk '$1 == "subthreads" || $1 == "redone" { sum += $2 } END { print sum }' out ;;
+    esac
+}
+
+# The milliseconds at each size, less those of an empty batch, the growth from half to the whole, and that of the work.
 grown() {
-    local empty part took=()
-    empty="$(least "$1" "$made/empty.gp")"
+    local empty part took=() work=() once count=1
+    empty="$(least 1 "$1" "$made/empty.gp")"
+    cd 2
+    once=$(($(least 1 "$@" batch.gp --subthreads 200000) - empty))
+    cd ..
+    [ "$once" -ge 50 ] || count=$((50 / (once > 0 ? once : 1) + 1))
+    empty="$(least "$count" "$1" "$made/empty.gp")"
     for part in 4 2 1; do
         cd "$part"
-        took+=($(($(least "$@" batch.gp --subthreads 200000) - empty)))
+        took+=($(($(least "$count" "$@" batch.gp --subthreads 200000) - empty)))
+        work+=("$(work_of "$name")")
         cd ..
     done
-    awk -v quarter="${took[0]}" -v half="${took[1]}" -v whole="${took[2]}" 'BEGIN {
-        printf " %d | %d | %d | %.1f |\n", quarter, half, whole, whole / (half > 0 ? half : 1)
+    awk -v quarter="${took[0]}" -v half="${took[1]}" -v whole="${took[2]}" -v before="${work[1]}" -v after="${work[2]}" -v count="$count" 'BEGIN {
+        growth = whole / (half > 0 ? half : 1)
+        more = after / (before > 0 ? before : 1)
+        printf " %.1f | %.1f | %.1f | %.2f | %.2f | %.2f |\n", quarter / count, half / count, whole / count, growth, more, growth / more
     }'
 }
 
@@ -231,6 +257,7 @@ named() {
         faults) row faults 1000 'run --crew one --faults faults.csv' ;;
         place) row place 1000 'run --crew one --faults faults.csv' ;;
         chain) row chain 4000 'run --crew one --faults faults.csv' ;;
+        struck) row struck 60 'run --crew one --faults faults.csv' ;;
         blocks) row blocks 20000 'ckpt --crew one --every 4096 --faults faults.csv' 'ckpt --crew one --every 100000 --faults faults.csv' ;;
         restarts) row restarts 2048 'run --crew one --faults faults.csv' ;;
         apart) row apart 512 'run --crew one' one ;;
@@ -245,9 +272,9 @@ named() {
 }
 
 echo 'task main() { }' >"$made/empty.gp"
-[ $# -gt 0 ] || set -- soak faults place chain blocks restarts apart ended after between meeting waiting held heads copies
-echo '| batch, size | call | quarter | half | whole | growth |'
-echo '|---|---|---|---|---|---|'
+[ $# -gt 0 ] || set -- soak faults place chain struck blocks restarts apart ended after between meeting waiting held heads copies
+echo '| batch, size | call | quarter | half | whole | growth | of the work | more than it |'
+echo '|---|---|---|---|---|---|---|---|'
 for name in "$@"; do
     named "$name"
 done
