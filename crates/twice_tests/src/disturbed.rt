@@ -91,7 +91,7 @@ const ENDLESS: &str = "task main() {
 ";
 
 const ENDLESS_TEXT: &str =
-    "output\nspent 10\nrestarts\ncounts\nsubthreads 1\nrestarts 0\nredone 0\nunused 0\n";
+    "output\nspent 0\nrestarts\ncounts\nsubthreads 1\nrestarts 0\nredone 0\nunused 0\n";
 
 const RATES: &str = "1,2\n3,4\n5,6\n7,8\n9,10\n11,12\n13,14\n15,16\n17,18\n";
 
