@@ -57,7 +57,8 @@ impl Gate for Meeting {
     }
 }
 
-/// Two threads that add to one total, each after a loop: no run has gone on from where they begin, so they count as heavy.
+/// Two threads that add to one total. Positions 2 and 3 are ready at once, the first thread and `main` once it has forked the second, and come to a loop; no run
+/// has gone on from where they do, so they count as heavy.
 pub const LOOPED_ADD: &str = "lock tally[1];
 record total[1] by tally;
 task add(n) {
@@ -69,20 +70,22 @@ task add(n) {
   unlock tally[0];
 }
 task main() {
+  var w;
   fork add(3);
   fork add(4);
+  while w < 2 { w = w + 1; }
   join 1;
   join 2;
 }
 ";
 
-/// Positions 4, 5 and 6 are ready at once and begin with a loop, and no run has gone on from where they do, so they count as
-/// heavy.
+/// Positions 4, 5 and 6 are ready at once and come to a loop: the first thread once it has the lock, the second one, and `main` once it has forked the third. No
+/// run has gone on from where they do, so they count as heavy.
 pub const THREE: &str = "lock door[1];
-task first() { var k; while k < 2 { k = k + 1; } lock door[0]; unlock door[0]; }
+task first() { var k; lock door[0]; while k < 2 { k = k + 1; } unlock door[0]; }
 task second() { var k; while k < 2 { k = k + 1; } }
-task third() { var k; while k < 2 { k = k + 1; } }
-task main() { fork first(); fork second(); fork third(); join 1; join 2; join 3; }
+task third() { }
+task main() { var w; fork first(); fork second(); fork third(); while w < 2 { w = w + 1; } join 1; join 2; join 3; }
 ";
 
 /// A gate that holds each task of positions 4, 5 and 6 until all three are in, or until it has looked often enough.
