@@ -1,23 +1,19 @@
 -- The batch of the example, and what its run comes to.
-use Rattle.std.proofs.Common.{◌≡◌, ◌++◌, ℕ, List, [], ◌∷◌, refl, subst, ◌∙◌}
-use Rattle.std.specs.Prelude.{ℤ, pos, codes, Some, None, Ok}
+use Rattle.std.proofs.Common.{◌≡◌, List, [], ◌∷◌, refl, subst}
+use Rattle.std.specs.Prelude.{pos, codes, Some}
 use Rattle.std.specs.Fmt.{digits}
 use Rattle.csv.proofs.OnLiterals.{csv_on_literals}
 use Rattle.csv.specs.Records.{field_at}
-use Rattle.gp_base.specs.declared.ending.End.{End}
 use Rattle.gp_base.specs.declared.ending.End.TheVariants.{Finished}
 use Rattle.gp_base.specs.declared.fault.Fault.{Fault}
-use Rattle.gp_base.specs.declared.journal.Restart.{Restart}
 use Rattle.task_ast.specs.meaning.Body.{stretch, body}
 use Rattle.task_ast.specs.meaning.Repeat.{repeated, until_done, steps, state_after}
 use Rattle.batch_files.specs.meaning.Rows.{first_broken}
-use Rattle.call_cases.specs.meaning.Headline.{Call}
 use Rattle.call_cases.specs.meaning.InputFiles.{load_faults, no_inputs}
 use Rattle.call_cases.specs.meaning.PlainText.{plain_ran, restarts_in}
 use Rattle.call_cases.specs.meaning.RunCommands.{end_status}
-use Rattle.call_cases.specs.meaning.Texts.{Ran}
 use Rattle.call_cases.specs.meaning.Work.{ToDo, work_for}
-use Rattle.batch_calls.specs.meaning.RunTheorem.{gave, published, IsBatch, Ends, RunsBatch}
+use Rattle.batch_calls.specs.meaning.RunTheorem.{gave, published, IsBatch, Ends}
 use Rattle.call_laws.specs.meaning.RunLaws.{run_asked, example_files, example_text, RunExample}
 use Rattle.call_laws.proofs.RunWords.{run_law}
 use Rattle.call_laws.proofs.SevenSpells.{seven_text, the_program, spells}

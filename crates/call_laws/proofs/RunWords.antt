@@ -1,23 +1,17 @@
 -- What the words `run PROGRAM --faults LIST` come to.
-use Rattle.std.proofs.Common.{◌≡◌, ℕ, Bool, true, false, if◌then◌else◌, List, [], ◌∷◌, ◌++◌, refl, sym, ap, subst, ◌∙◌}
-use Rattle.std.specs.Prelude.{codes, ◌==◌, is_some}
+use Rattle.std.proofs.Common.{◌≡◌, ℕ, false, if◌then◌else◌, List, [], ◌∷◌, refl, ap, ◌∙◌}
+use Rattle.std.specs.Prelude.{codes, is_some}
 use Rattle.std.specs.Str.{bytes_eq}
-use Rattle.std.specs.declared.option.Option.{Option}
 use Rattle.std.specs.declared.option.Option.TheVariants.{Some, None}
-use Rattle.clap.specs.Words.{App, Kinds, Row, Rule, Text, Shape, built, fault_of, matches_of, first_of}
+use Rattle.clap.specs.Words.{Kinds, Rule, Text, Shape, built, fault_of, matches_of}
 use Rattle.clap.specs.Lexer.{long_of, short_of}
 use Rattle.clap.specs.Simple.{entered}
 use Rattle.clap.specs.Walk.{settled, finished, Held, Walk, Waiting, idle, option, positional, Step, value, subcommand_met, plain_word, after_step, walked, walk_from, nothing_held, word_met, walk}
 use Rattle.clap.specs.Faults.{walk_fault, turn_fault, word_fault, step_fault, settle_fault, check_fault, entered_fault, defaults_fault}
 use Rattle.clap.specs.Kinds.{or_else}
 use Rattle.command_line.specs.meaning.Arguments.{is_faultless}
-use Rattle.command_line.specs.meaning.Words.{app_for, for_run, asked_in, asked_of, asked_by}
+use Rattle.command_line.specs.meaning.Words.{app_for, for_run, asked_in, asked_by}
 use Rattle.command_line.specs.declared.asked.Verb.TheVariants as verb
-use Rattle.call_cases.specs.meaning.Headline.{Call}
-use Rattle.call_cases.specs.meaning.PlainText.{plain_ran}
-use Rattle.call_cases.specs.meaning.RunCommands.{end_status}
-use Rattle.call_cases.specs.meaning.Work.{Files, work_for}
-use Rattle.batch_calls.specs.meaning.RunTheorem.{published, IsBatch, Ends, RunsBatch}
 use Rattle.call_laws.specs.meaning.RunLaws.{run_words, run_asked, is_like_option, RunLaw}
 
 -- ---- a word that is like no option

@@ -1,25 +1,18 @@
 -- The text of the example spells its program, form by form of the grammar.
-use Rattle.std.proofs.Common.{◌≡◌, ◌≤◌, ℕ, List, [], ◌∷◌, ◌++◌, refl, inl, inr, arith}
-use Rattle.std.specs.Prelude.{ℤ, pos, codes, Option, Some, None, Result, Ok, Err}
-use Rattle.csv.proofs.OnLiterals.{csv_on_literals}
-use Rattle.csv.specs.Records.{field_at}
-use Rattle.gp_base.specs.declared.fault.Fault.{Fault}
+use Rattle.std.proofs.Common.{◌≤◌, ℕ, List, [], ◌∷◌, ◌++◌, refl, inl, inr, arith}
+use Rattle.std.specs.Prelude.{pos, codes, None}
 use Rattle.gp_base.specs.declared.limits.TheConstants.{DEEPEST_NESTING}
 use Rattle.task_ast.specs.declared.tree.Op.{Op}
 use Rattle.task_ast.specs.declared.tree.Op.TheVariants.{Or, And, Add, Sub, Mul, Div, Rem}
 use Rattle.task_ast.specs.meaning.Tree.{Expr, Num, Stmt, At, Print, Nothing, Then, TaskText, Program}
-use Rattle.gp_base.specs.declared.limits.TheConstants.{MOST_PROGRAM_BYTES}
-use Rattle.task_ast.specs.meaning.Check.{check_fault}
 use Rattle.task_parser.specs.declared.token.Kind.{Kind}
 use Rattle.task_parser.specs.declared.token.Kind.TheVariants as kind
 use Rattle.task_parser.specs.declared.token.Token.{Token}
 use Rattle.task_parser.specs.meaning.Words.{Form, Placed, many, ◌▸◌, ◌◂◌, ◌∣◌, the, separated}
-use Rattle.task_parser.specs.meaning.Expressions.{Text, name, expression, level, compared, sum, unary, operator}
+use Rattle.task_parser.specs.meaning.Expressions.{Text, name, expression, level, compared, unary, operator}
 use Rattle.task_parser.specs.meaning.Statements.{statement, listed_in}
 use Rattle.task_parser.specs.meaning.Programs.{program, task, param, var_line}
 use Rattle.task_parser.specs.meaning.Spelling.{Spells}
-use Rattle.batch_files.specs.meaning.Rows.{csv_rows, first_broken}
-use Rattle.batch_files.specs.meaning.Faults.{faults_by}
 
 abbrev pub seven_text : Text
 seven_text = codes "task main() { print 7; }"
@@ -68,7 +61,6 @@ ends = token_of (kind.Mark 7) 21 22
 abbrev leaves : Token
 leaves = token_of (kind.Mark 5) 23 24
 
-
 abbrev head_placed : List Placed
 head_placed = placed_at task_word ∷ placed_at main ∷ placed_at opens ∷ placed_at closes ∷ placed_at begins ∷ []
 
@@ -100,7 +92,6 @@ comparisons = compared sums
 
 abbrev conjunctions : Form Expr
 conjunctions = level (operator "and" And) comparisons
-
 
 number_7 : operands 0 (placed_at seven_token ∷ []) (Num (pos 7))
 number_7 = inr (inr (inl (record { from = pos 7; is = refl; stands = (seven_token, record { passes = refl; alone = refl }) })))
