@@ -1,2 +1,5 @@
 pub mod Logged
 pub mod Parts
+pub mod RunExample
+pub mod RunWords
+pub mod SevenSpells
