@@ -1,0 +1,3 @@
+pub mod Csv
+pub mod Order
+pub mod Starts

@@ -1,0 +1,4 @@
+pub mod Comes
+pub mod Files
+pub mod Runs
+pub mod Sourced
