@@ -184,6 +184,7 @@ END
 least() {
     local best="" took run count="$1" each TIMEFORMAT='%3U %3S'
     shift
+    : >told
     for ((run = 0; run < runs; run++)); do
         took="$({ time for ((each = 0; each < count; each++)); do "$gprs" "$@" >out 2>>told; done; } 2>&1)"
         [ ! -s told ] || { echo "$0: $PWD: $*: $(head -c 200 told)" >&2; exit 1; }
