@@ -1,7 +1,8 @@
 -- How a run comes to each of its positions, and which control variables its threads have there.
 use Rattle.std.proofs.Common.{◌≡◌, ℕ, zero, suc, ◌+◌, ◌<◌, List, [], ◌∷◌, ◌++◌, length, map, drop, get_or, refl, sym, ap, ap₂, ◌∙◌, add-one, append_assoc, arith}
-use Rattle.std.specs.Prelude.{unwrap_or, slice_get}
+use Rattle.std.specs.Prelude.{Some, None, unwrap_or, slice_get, option_map}
 use Rattle.std.proofs.lemmas.List.{drop_more}
+use Rattle.std.proofs.lemmas.Option.{slice_get-map}
 use Rattle.gp_base.specs.declared.limits.Limits.{Limits}
 use Rattle.gp_base.specs.declared.feed.Inputs.{Inputs}
 use Rattle.task_ast.specs.declared.tree.Program.{Program as Code}
@@ -17,6 +18,7 @@ use Rattle.task_ast.proofs.Repeats.{state_after_next, state_after_none}
 use Rattle.task_ast.proofs.Runs.{before-is}
 use Rattle.one_thread.specs.declared.threads.Run.{Run}
 use Rattle.one_thread.specs.declared.run.Step.{Step}
+use Rattle.one_thread.specs.declared.walk.Walk.{Walk}
 use Rattle.one_thread.specs.Runs.{Holds}
 use Rattle.one_thread.specs.Moves.{Went}
 use Rattle.one_thread.specs.Walking.{point_of}
@@ -30,6 +32,19 @@ names-at : (threads : List Thread)
     → map (λ (p : Point). p.names) (map (λ (th : Thread). th.at) threads) ≡ map (λ (th : Thread). th.at.names) threads
 names-at [] = refl
 names-at (th ∷ threads) = ap (λ rest. th.at.names ∷ rest) (names-at threads)
+
+-- the variables of a thread of the code, and of one that is not there
+pub read-some : (walks : List Walk) (thread : ℕ) (walk : Walk) → slice_get walks thread ≡ Some walk
+    → (point_of walk).names ≡ unwrap_or (slice_get (map (λ (p : Point). p.names) (map point_of walks)) thread) []
+read-some walks thread walk is =
+    sym (ap (λ o. unwrap_or o []) (slice_get-map (λ (p : Point). p.names) (map point_of walks) thread
+    ∙ ap (option_map (λ (p : Point). p.names)) (slice_get-map point_of walks thread ∙ ap (option_map point_of) is)))
+
+pub read-none : (walks : List Walk) (thread : ℕ) → slice_get walks thread ≡ None
+    → [] ≡ unwrap_or (slice_get (map (λ (p : Point). p.names) (map point_of walks)) thread) []
+read-none walks thread is =
+    sym (ap (λ o. unwrap_or o []) (slice_get-map (λ (p : Point). p.names) (map point_of walks) thread
+    ∙ ap (option_map (λ (p : Point). p.names)) (slice_get-map point_of walks thread ∙ ap (option_map point_of) is)))
 
 module _ (code : Code) (inputs : Inputs) (limits : Limits) where
   -- the code's run stands for the plain run before a position

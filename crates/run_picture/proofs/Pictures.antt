@@ -54,10 +54,10 @@ Same known values p (s ∷ run) = (known p s.thread ≡ values p s.thread) × Sa
 module _ (heads : List Head) (tells : Tells) (restarts : List Restart) where
   boxes-bare : (p : ℕ) (s : Subthread) (values : Values) (attempt number : ℕ) (those : List Restart)
       → boxes heads tells p (bare s) values attempt number those ≡ boxes heads tells p s values attempt number those
-  unfolding title
+  unfolding title attempt_box
   boxes-bare p s values attempt number [] = refl
   boxes-bare p s values attempt number (r ∷ later) =
-      ap₂ (λ yes no. cond (redoes p r) (attempt_box heads p s values attempt (ended_by p number r) (tells p attempt) ∷ yes) no)
+      ap₂ (λ yes no. cond (redoes p r) (attempt_box heads p s values attempt (ended_by p number r) (tells p attempt) ∷ [] ++ yes) no)
       (boxes-bare p s values (suc attempt) (suc number) later) (boxes-bare p s values attempt (suc number) later)
 
   column-seen : (p : ℕ) (s : Subthread) (values : Values)
@@ -125,12 +125,11 @@ picture-made view frame ending drawing height first second third text shows begu
     λ count. plain (codes "run") (summary count (length view.restarts.now) ending) ∷ map (λ part. plain part.0 part.1) (parts_in frame)
     ++ columns (shows_in view.bands.now) view.heads.now (found view.tellings.now) (values_in view.known.now) view.restarts.now true 0
     (map seen view.order.now)
-    ++ notes 1 view.restarts.now in
-    (
+    ++ notes 1 view.restarts.now in (
       record { width = view.bands.now.width; height = height; frame = parts_in frame; shows = shows_in view.bands.now; place = place },
       taken ∙ closed ∙ ap (λ l. l ++ end) (drew ∙ ap (λ l. l ++ drawn place 0 drawing.elements) begun)
-      ∙ ap (λ those. start ++ drawn place 0 those ++ end) shows
-      ∙ ap (λ count. start ++ drawn place 0 (of count) ++ end) (sym (length-map view.order.now seen)),
+          ∙ ap (λ those. start ++ drawn place 0 those ++ end) shows
+          ∙ ap (λ count. start ++ drawn place 0 (of count) ++ end) (sym (length-map view.order.now seen)),
     )
 
 -- what is read of a list, and what is left of it after that

@@ -10,7 +10,9 @@ use crate::layout::Bands;
 use crate::told::{Tellings, Told};
 use gp_base::{LockNo, Name, Restart, Seq, Text, ThreadNo};
 use one_thread::Step;
-use run_views::{child_in, push_between, push_child, push_labelled, push_number, push_step, redoes};
+use run_views::{
+    child_in, push_between, push_child, push_labelled, push_number, push_step, redoes,
+};
 use std::alloc::{AllocError, Global};
 use task_ast::{Head, SyncOp, natural};
 
@@ -189,6 +191,7 @@ fn title(
 }
 
 // The box of an attempt.
+#[tactic(auto, unfolding(crate::specs::meaning::Attempts::attempt_box))]
 fn attempt_box(
     alloc: Global,
     column: &Column<'_>,

@@ -1,6 +1,6 @@
 // The elements of a picture and their places, and how they are written.
 ghost use Rattle.std.specs.Prelude.{◌≡◌, [], ◌∷◌, ◌++◌, codes, OnOk, IfOk};
-ghost use Rattle.run_picture.specs.meaning.Elements.{opening, title_text, rectangle, words_at, element_text, drawn};
+ghost use Rattle.run_picture.specs.meaning.Elements.{colours, opening, title_text, rectangle, words_at, element_text, drawn};
 ghost use Rattle.run_picture.specs.meaning.Picture.{plain};
 ghost use Rattle.run_picture.specs.inner.Drawn.{nowhere, place_in};
 
@@ -9,7 +9,7 @@ use run_views::{push_between, push_labelled};
 use std::alloc::{AllocError, Global};
 
 const COLOURS: &[u8] =
-    b"'>\n<style>text{font:10px sans-serif}rect{fill:none}.column,.kept,.again,.struck,.undone,.stale,.unrun{text-anchor:middle}.thread{text-anchor:end}.thread rect,.fold rect{fill:#efefef}.kept rect{fill:#b9d7ea}.again rect{fill:#2b6ea6}.struck rect,.front rect{fill:#d7263d}.undone rect{fill:#f4a259}.stale rect{fill:#d4d4d4}.unrun rect{fill:#fff;stroke:#8d8d8d}.again text,.struck text{fill:#fff}.front text,.note text{fill:#d7263d}</style>\n<rect width='100%' height='100%' style='fill:#fff'/>\n";
+    b"<style>text{font:10px sans-serif}rect{fill:none}.column,.kept,.again,.struck,.undone,.stale,.unrun{text-anchor:middle}.thread{text-anchor:end}.thread rect,.fold rect{fill:#efefef}.kept rect{fill:#b9d7ea}.again rect{fill:#2b6ea6}.struck rect,.front rect{fill:#d7263d}.undone rect{fill:#f4a259}.stale rect{fill:#d4d4d4}.unrun rect{fill:#fff;stroke:#8d8d8d}.again text,.struck text{fill:#fff}.front text,.note text{fill:#d7263d}</style>\n<rect width='100%' height='100%' style='fill:#fff'/>\n";
 
 /// An element: its class, what it says when it is pointed at, and its words.
 #[derive(Drop)]
@@ -76,7 +76,8 @@ impl Drawing {
         ensures { OnOk result (self.new.elements ≡ self.old.elements ++ element ∷ []) }
     {
         self.elements.push(element)?;
-        self.places.push(place)
+        self.places.push(place)?;
+        Ok(())
     }
 
     // The place of the element of this number.
@@ -90,14 +91,26 @@ impl Drawing {
     }
 }
 
+// Appends the colours of the classes.
+#[tactic(auto, unfolding(crate::specs::meaning::Elements::colours))]
+fn push_colours(text: &mut Vec<u8>) -> Result<(), AllocError>
+    ensures { OnOk result (text.new.items ≡ text.old.items ++ colours) }
+{
+    text.extend_from_slice(COLOURS)
+}
+
 /// Appends how a picture of a size begins.
 #[tactic(auto, unfolding(crate::specs::meaning::Elements::opening))]
 pub fn push_opening(text: &mut Vec<u8>, width: u64, height: u64) -> Result<(), AllocError>
     ensures { OnOk result (text.new.items ≡ text.old.items ++ opening width height) }
 {
-    push_labelled(text, b"<svg xmlns='http://www.w3.org/2000/svg' width='", width)?;
-    push_labelled(text, b"' height='", height)?;
-    text.extend_from_slice(COLOURS)
+    push_labelled(
+        text,
+        b"<svg xmlns='http://www.w3.org/2000/svg' width='",
+        width,
+    )?;
+    push_between(text, b"' height='", height, b"'>\n")?;
+    push_colours(text)
 }
 
 // Appends what an element says when it is pointed at, where that is anything.

@@ -21,7 +21,12 @@ pub struct Part {
 const KEYS: [(&[u8], &[u8], u64, u64); 4] = [
     (b"kept", b"kept", 50, 60),
     (b"struck", b"struck by a fault", 116, 114),
-    (b"undone", b"undone, since it depends on one that was struck", 236, 300),
+    (
+        b"undone",
+        b"undone, since it depends on one that was struck",
+        236,
+        300,
+    ),
     (b"again", b"kept after a restart", 542, 128),
 ];
 

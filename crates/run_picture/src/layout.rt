@@ -13,12 +13,16 @@ use std::alloc::{AllocError, Global};
 // How many positions a band has at most; how many positions that no restart touches are told together at least, but for
 // some beside one that is touched.
 const WIDEST: usize = 32;
+
 const LONG: usize = 64;
+
 const BESIDE: usize = 4;
 
 // The distances from the left, from one column to the next, and from one lane to the next.
 const LEFT: u64 = 50;
+
 const COLUMN: u64 = 46;
+
 const LANE: u64 = 14;
 
 /// A band of positions: its upper edge, its first position and how many it has, whether they have columns, how many lanes
@@ -63,7 +67,9 @@ impl Band {
     // The lower edge of the band.
     fn foot(&self) -> u64 {
         if self.shown {
-            self.top.saturating_add(self.rows_height()).saturating_add(40)
+            self.top
+                .saturating_add(self.rows_height())
+                .saturating_add(40)
         } else {
             self.top.saturating_add(30)
         }

@@ -8,6 +8,15 @@ use gp_base::{Restart, Seq, Text};
 use run_views::{push_between, push_labelled, push_number};
 use std::alloc::{AllocError, Global};
 
+// Appends which attempt a restart found struck.
+fn push_struck(text: &mut Vec<u8>, restart: &Restart) -> Result<(), AllocError>
+    ensures { OnOk result (text.new.items ≡ text.old.items
+        ++ codes " attempt " ++ decimal restart.now.attempt ++ codes " of " ++ decimal restart.now.struck ++ codes " struck redone ") }
+{
+    push_labelled(text, b" attempt ", restart.attempt)?;
+    push_between(text, b" of ", restart.struck.0, b" struck redone ")
+}
+
 // Appends what a restart of this number did.
 #[tactic(auto, unfolding(crate::specs::meaning::Picture::note))]
 fn push_note(text: &mut Vec<u8>, number: u64, restart: &Restart) -> Result<(), AllocError>
@@ -15,8 +24,7 @@ fn push_note(text: &mut Vec<u8>, number: u64, restart: &Restart) -> Result<(), A
 {
     push_number(text, number)?;
     push_labelled(text, b": front ", restart.front.0)?;
-    push_labelled(text, b" attempt ", restart.attempt)?;
-    push_between(text, b" of ", restart.struck.0, b" struck redone ")?;
+    push_struck(text, restart)?;
     push_number(text, restart.redo.len())
 }
 

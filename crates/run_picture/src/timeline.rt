@@ -25,12 +25,7 @@ use std::alloc::{AllocError, Global};
 
 // How many subthreads and restarts there are, and how the run ends.
 #[tactic(auto, unfolding(crate::specs::meaning::Picture::summary))]
-fn summary(
-    alloc: Global,
-    positions: usize,
-    restarts: usize,
-    end: End,
-) -> Result<Text, AllocError>
+fn summary(alloc: Global, positions: usize, restarts: usize, end: End) -> Result<Text, AllocError>
     ensures { IfOk result (λ text. text ≡ summary positions restarts end) }
 {
     let mut text = Vec::new(alloc);
@@ -83,12 +78,7 @@ fn drawing_of(
 }
 
 // The picture that shows this, in this frame, of a run that ends so.
-fn picture(
-    alloc: Global,
-    view: &View<'_>,
-    frame: &[Part],
-    end: End,
-) -> Result<Text, AllocError>
+fn picture(alloc: Global, view: &View<'_>, frame: &[Part], end: End) -> Result<Text, AllocError>
     requires few { length view.now.order.now ≤ 200000 }
     requires few_restarts { length view.now.restarts.now ≤ 1000 }
     ensures { IfOk result (λ text. (layout : Layout) × (text ≡ picture layout view.now.heads.now (found view.now.tellings.now) (values_in view.now.known.now)

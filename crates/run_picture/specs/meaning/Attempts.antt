@@ -106,7 +106,7 @@ title heads p s values attempt fate told =
     order_line heads p s ++ values_line values ++ codes "attempt " ++ decimal attempt ++ fate_text fate ++ told_text told
 
 -- the box of an attempt of the subthread at a position
-abbrev pub attempt_box : List Head → (position : ℕ) → Subthread → Values → (attempt : ℕ) → Fate → Told → Element
+unfoldable pub attempt_box : List Head → (position : ℕ) → Subthread → Values → (attempt : ℕ) → Fate → Told → Element
 attempt_box heads p s values attempt fate told =
     record {
       class = class_of attempt fate told;
@@ -124,6 +124,6 @@ abbrev pub boxes : List Head → Tells → (position : ℕ) → Subthread → Va
 boxes heads tells p s values attempt number [] = attempt_box heads p s values attempt Stays (tells p attempt) ∷ []
 boxes heads tells p s values attempt number (r ∷ later) =
     cond (redoes p r)
-    (attempt_box heads p s values attempt (ended_by p number r) (tells p attempt)
-    ∷ boxes heads tells p s values (suc attempt) (suc number) later)
+    (attempt_box heads p s values attempt (ended_by p number r) (tells p attempt) ∷ []
+    ++ boxes heads tells p s values (suc attempt) (suc number) later)
     (boxes heads tells p s values attempt (suc number) later)

@@ -12,11 +12,14 @@ pub record Layout : Type 0 where
   pub shows : (position : ℕ) → Bool
   pub place : (number : ℕ) → Place
 
--- how a picture of a size begins, with the colours of the classes
+-- the colours of the classes, on white
+unfoldable pub colours : List ℕ
+colours = codes "<style>text{font:10px sans-serif}rect{fill:none}.column,.kept,.again,.struck,.undone,.stale,.unrun{text-anchor:middle}.thread{text-anchor:end}.thread rect,.fold rect{fill:#efefef}.kept rect{fill:#b9d7ea}.again rect{fill:#2b6ea6}.struck rect,.front rect{fill:#d7263d}.undone rect{fill:#f4a259}.stale rect{fill:#d4d4d4}.unrun rect{fill:#fff;stroke:#8d8d8d}.again text,.struck text{fill:#fff}.front text,.note text{fill:#d7263d}</style>\n<rect width='100%' height='100%' style='fill:#fff'/>\n"
+
+-- how a picture of a size begins
 unfoldable pub opening : (width height : ℕ) → List ℕ
 opening width height =
-    codes "<svg xmlns='http://www.w3.org/2000/svg' width='" ++ decimal width ++ codes "' height='" ++ decimal height
-    ++ codes "'>\n<style>text{font:10px sans-serif}rect{fill:none}.column,.kept,.again,.struck,.undone,.stale,.unrun{text-anchor:middle}.thread{text-anchor:end}.thread rect,.fold rect{fill:#efefef}.kept rect{fill:#b9d7ea}.again rect{fill:#2b6ea6}.struck rect,.front rect{fill:#d7263d}.undone rect{fill:#f4a259}.stale rect{fill:#d4d4d4}.unrun rect{fill:#fff;stroke:#8d8d8d}.again text,.struck text{fill:#fff}.front text,.note text{fill:#d7263d}</style>\n<rect width='100%' height='100%' style='fill:#fff'/>\n"
+    codes "<svg xmlns='http://www.w3.org/2000/svg' width='" ++ decimal width ++ codes "' height='" ++ decimal height ++ codes "'>\n" ++ colours
 
 -- what an element says when it is pointed at, where that is anything
 abbrev pub title_text : (title : List ℕ) → List ℕ

@@ -1,5 +1,5 @@
 -- The picture of a run and of the restarts that faults make of it: its elements in their order, and the text of them.
-use Rattle.std.specs.Prelude.{ℕ, zero, suc, Bool, true, cond, ◌||◌, nat_eq, Option, unwrap_or, slice_get, List, [], ◌∷◌, ◌++◌, length, map, codes, decimal}
+use Rattle.std.specs.Prelude.{ℕ, zero, suc, ◌+◌, Bool, true, false, cond, ◌||◌, nat_eq, Option, unwrap_or, slice_get, List, [], ◌∷◌, ◌++◌, length, map, codes, decimal}
 use Rattle.std.specs.List.{list_any}
 use Rattle.gp_base.specs.declared.ending.End.{End}
 use Rattle.gp_base.specs.declared.fault.Fault.{Fault}
@@ -71,9 +71,8 @@ note number r =
 abbrev pub fronts : (position number : ℕ) → List Restart → List Element
 fronts p number [] = []
 fronts p number (r ∷ later) =
-    cond (nat_eq r.front (suc p))
-    (record { class = codes "front"; title = note number r; words = decimal number } ∷ fronts p (suc number) later)
-    (fronts p (suc number) later)
+    cond (nat_eq r.front (suc p)) (record { class = codes "front"; title = note number r; words = decimal number } ∷ []) []
+    ++ fronts p (suc number) later
 
 -- the column of a subthread
 abbrev pub column : List Head → Tells → List Restart → (position : ℕ) → Subthread → Values → List Element
@@ -93,7 +92,7 @@ columns shows heads tells values restarts follows p (s ∷ run) =
 -- a note for each restart, where the first of them has this number
 abbrev pub notes : (number : ℕ) → List Restart → List Element
 notes number [] = []
-notes number (r ∷ restarts) = plain (codes "note") (note number r) ∷ notes (suc number) restarts
+notes number (r ∷ restarts) = plain (codes "note") (note number r) ∷ [] ++ notes (suc number) restarts
 
 -- the elements of a picture: how many subthreads and restarts there are and how the run ends, what frames it, its columns, and its notes
 abbrev pub elements : Layout → List Head → Tells → (values : (position thread : ℕ) → Values) → List Subthread → End → List Restart
