@@ -3,6 +3,7 @@ use Rattle.std.proofs.Common.{◌≡◌, ◌≤◌, ℕ, zero, suc, List, [], �
 use Rattle.std.proofs.lemmas.List.{length-map}
 use Rattle.gp_base.specs.declared.feed.Inputs.{Inputs}
 use Rattle.gp_base.specs.declared.limits.Limits.{Limits}
+use Rattle.gp_base.specs.declared.limits.TheConstants.{MOST_SUBTHREADS}
 use Rattle.task_ast.specs.declared.tree.Head.{Head}
 use Rattle.task_ast.specs.meaning.Tree.{Program}
 use Rattle.task_ast.specs.meaning.Run.{Thread, Run, plain_order, plain_before, plain_end}
@@ -49,6 +50,9 @@ module _ (program : Program) (inputs : Inputs) (limits : Limits) (run : PlainRun
       count_law (tree_machine program inputs limits) program inputs limits in
       let same = same_count in
       omega (arith, count, same)
+
+  pub few-steps : limits.subthreads ≤ MOST_SUBTHREADS → length run.order ≤ 200000
+  few-steps few = let most = most_steps in omega (arith, most, few)
 
 -- a run stands after all its subthreads as it stands at its end
 before_end : (program : Program) (inputs : Inputs) (limits : Limits)

@@ -29,7 +29,7 @@ use Rattle.gp_audit.proofs.Orders.{order-is}
 use Rattle.run_views.specs.declared.links.Link.{Link}
 use Rattle.run_views.specs.meaning.Links.{Party, party_of, linked, link_of}
 use Rattle.run_views.specs.meaning.Why.{link_line, struck_line, link_text, chain, restart_texts, redone_line, why_lines, why_text}
-use Rattle.run_views.specs.inner.Seen.{seen, party_in}
+use Rattle.run_views.specs.Seen.{seen, party_in}
 use Rattle.run_views.proofs.Endings.{same_order}
 use Rattle.run_views.proofs.SeenSteps.{child_written, line_seen}
 

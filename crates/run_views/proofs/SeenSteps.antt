@@ -16,7 +16,7 @@ use Rattle.one_thread.specs.PlainRuns.{IsPlainRun, shown}
 use Rattle.run_views.specs.meaning.Order.{order_line, order_lines, end_line}
 use Rattle.run_views.specs.meaning.Deadlocks.{deadlock_text}
 use Rattle.run_views.specs.meaning.OrderText.{order_text}
-use Rattle.run_views.specs.inner.Seen.{thread_in, child_in, seen}
+use Rattle.run_views.specs.Seen.{thread_in, child_in, seen}
 use Rattle.run_views.proofs.Endings.{same_order, same_end}
 
 -- the thread that is forked is the second whose registers are written

@@ -1,3 +1,3 @@
 pub mod Laws
-pub mod inner
+pub mod Seen
 pub mod meaning

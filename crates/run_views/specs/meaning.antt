@@ -3,6 +3,5 @@ pub mod Deadlocks
 pub mod Links
 pub mod Order
 pub mod OrderText
-pub mod Timeline
 pub mod Waits
 pub mod Why

@@ -2,7 +2,7 @@
 ghost use Rattle.std.specs.Prelude.{◌≡◌, ◌<◌, length, map, IfSome};
 ghost use Rattle.dependence.specs.meaning.Conflict.{clash_in};
 ghost use Rattle.run_views.specs.meaning.Links.{Party, linked, joins, has_cell, is_shared, shared_cell, link_by, link_of};
-ghost use Rattle.run_views.specs.inner.Seen.{party_in};
+ghost use Rattle.run_views.specs.Seen.{party_in};
 
 use crate::order::child_in;
 use dependence::conflict;

@@ -10,7 +10,7 @@ ghost use Rattle.run_views.specs.meaning.Order.{thread_text, sync_text, held_tex
 ghost use Rattle.run_views.specs.meaning.Waits.{nexts_in};
 ghost use Rattle.run_views.specs.meaning.Deadlocks.{standing_text, deadlock_text};
 ghost use Rattle.run_views.specs.meaning.OrderText.{order_text};
-ghost use Rattle.run_views.specs.inner.Seen.{child_in, seen};
+ghost use Rattle.run_views.specs.Seen.{child_in, seen};
 
 use crate::deadlocks::push_standing;
 use crate::names::{push_between, push_labelled, push_named_barrier, push_named_lock, push_number};

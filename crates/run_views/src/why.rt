@@ -5,9 +5,9 @@ ghost use Rattle.task_ast.specs.View.{plain_program};
 ghost use Rattle.task_ast.specs.meaning.Names.{records_of, cells_in};
 ghost use Rattle.lock_checker.specs.Accepted.{program_of};
 ghost use Rattle.run_views.specs.meaning.Why.{record_text, link_line, struck_line, link_text, chain, why_line, restart_text, restart_texts, redone_line, why_lines, why_text};
-ghost use Rattle.run_views.specs.inner.Seen.{seen, party_in};
+ghost use Rattle.run_views.specs.Seen.{seen, party_in};
 
-use crate::bands::{attempt_of, redoes};
+use crate::restarted::{attempt_of, redoes};
 use crate::links::{Link, link_of, linked};
 use crate::names::{push_between, push_labelled, push_number, push_record};
 use crate::order::push_step;

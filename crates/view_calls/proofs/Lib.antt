@@ -1,3 +1,4 @@
+pub mod Layouts
 pub mod Readings
 pub mod Showing
 pub mod TraceWords

@@ -31,6 +31,7 @@ use Rattle.call_cases.proofs.Loads.{only_one}
 use Rattle.call_cases.proofs.OneCase.{has_one_case}
 use Rattle.audit_calls.proofs.Readings.{Reads, one_reading}
 use Rattle.audit_calls.proofs.SomeJudge.{some_reading, some_verdict, lawful_verdict}
+use Rattle.run_picture.specs.meaning.Elements.{Layout}
 use Rattle.view_calls.specs.declared.words.Viewed.{Viewed}
 use Rattle.view_calls.specs.meaning.Commands.{MayRead, of_run, the_trace, viewed_by, asking, commands}
 use Rattle.view_calls.specs.meaning.Sights.{Sight, Sees, of_lines, of_unlawful, of_row, WithTrace}
@@ -259,9 +260,10 @@ module _ (viewed : Viewed) (before now : List Name) where
   trace_reads file same T refused.OutOfMemory is = tt
 
 -- words for which nothing is read are those of no command
-pub nothing_read : {P : Type 0} (words : List (List ℕ)) → (viewed_by words ≡ None → P) → ReadsNothing commands (viewed_by words) → P
-nothing_read {P} words to = go (viewed_by words) to
+pub nothing_read : {P : Type 0} (layout : Layout) (words : List (List ℕ)) → (viewed_by words ≡ None → P)
+    → ReadsNothing (commands layout) (viewed_by words) → P
+nothing_read {P} layout words to = go (viewed_by words) to
   where
-    go : (asked : Option Viewed) → (asked ≡ None → P) → ReadsNothing commands asked → P
+    go : (asked : Option Viewed) → (asked ≡ None → P) → ReadsNothing (commands layout) asked → P
     go None holds nothing = holds refl
     go (Some viewed) holds makes = cc makes

@@ -1,2 +1,3 @@
 -- What describes parts of the crate alone.
 pub mod Answers
+pub mod Layouts

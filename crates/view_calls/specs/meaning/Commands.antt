@@ -10,8 +10,10 @@ use Rattle.command_line.specs.declared.asked.Verb.TheVariants.{Run, One}
 use Rattle.command_line.specs.declared.why_words.Sought.{Sought}
 use Rattle.call_cases.specs.declared.lines.Tool.TheVariants.{GprsView}
 use Rattle.call_cases.specs.meaning.Lines.{tool_line}
+use Rattle.call_cases.specs.meaning.Headline.{Call, Headline}
 use Rattle.call_cases.specs.meaning.Commands.{Asking, Commands, unjournalled}
 use Rattle.call_cases.specs.meaning.RunCommands as gprs
+use Rattle.run_picture.specs.meaning.Elements.{Layout}
 use Rattle.view_calls.specs.declared.words.Viewed.{Viewed}
 use Rattle.view_calls.specs.meaning.Sights.{Sight, supplies, sight_text, sight_status}
 
@@ -89,9 +91,14 @@ abbrev pub absent_line : (status : ℕ) → (position : Option ℕ) → List ℕ
 absent_line status None = []
 absent_line status (Some position) = if status == 5 then no_position_line position else []
 
--- the promises: no run over a journal begins, and a run that is stuck or has spent its limits is shown like any other
-abbrev pub commands : Commands Viewed Sight
-commands =
-    record (unjournalled asking MayRead sight_status IsShown sight_text) {
+-- the promises, where pictures are laid out so: no run over a journal begins, and a run that is stuck or has spent its limits is shown like
+-- any other
+abbrev pub commands : Layout → Commands Viewed Sight
+commands layout =
+    record (unjournalled asking MayRead (sight_status layout) IsShown (sight_text layout)) {
       error = λ viewed status journal. absent_line status viewed.position;
     }
+
+-- what holds of each call, in some layout
+abbrev pub Shows : Call → Type 0
+Shows call = (layout : Layout) × Headline (commands layout) call

@@ -13,8 +13,9 @@ use Rattle.call_cases.specs.meaning.Work.{Files, ToDo, Case, Refused, Go}
 use Rattle.call_cases.specs.meaning.InputFiles.{supplied_by, ThenLoads, ReadsFile}
 use Rattle.call_cases.specs.meaning.Journals.{dependence_for}
 use Rattle.call_cases.specs.meaning.Lines.{input_line}
+use Rattle.run_picture.specs.meaning.Elements.{Layout}
+use Rattle.run_picture.specs.meaning.Picture.{timeline_text}
 use Rattle.run_views.specs.meaning.OrderText.{order_text}
-use Rattle.run_views.specs.meaning.Timeline.{timeline_text}
 use Rattle.run_views.specs.meaning.Why.{why_text}
 use Rattle.view_calls.specs.declared.words.Viewed.{Viewed}
 
@@ -43,34 +44,33 @@ WithTrace (Some file) files position names work case =
 abbrev pub supplies : Viewed → Program → Files → Case Sight → Type 0
 supplies viewed program files = ThenLoads (supplied_by viewed.run program files) (WithTrace viewed.trace files viewed.position)
 
--- the picture of a run with its faults, and with its trace, or the order of a run
-abbrev pub text_for : Command → ToDo → (trace : Option (List TraceLine)) → List ℕ
-text_for command.Run work trace = timeline_text work.program work.inputs work.limits work.faults trace
-text_for command work trace = order_text work.program work.inputs work.limits
+-- where pictures are laid out so
+module _ (layout : Layout) where
+  -- the picture of a run with its faults, and with its trace, or the order of a run
+  abbrev pub text_for : Command → ToDo → (trace : Option (List TraceLine)) → List ℕ
+  text_for command.Run work trace = timeline_text layout work.program work.inputs work.limits work.faults trace
+  text_for command work trace = order_text work.program work.inputs work.limits
 
--- that of the whole run, or why a position of it was redone, where there is such a position
-abbrev pub view_by : (position : Option ℕ) → ToDo → (trace : Option (List TraceLine)) → Option (List ℕ)
-view_by None work trace = Some (text_for work.command work trace)
-view_by (Some position) work trace = why_text work.program work.inputs work.limits work.faults position
+  -- that of the whole run, or why a position of it was redone, where there is such a position
+  abbrev pub view_by : (position : Option ℕ) → ToDo → (trace : Option (List TraceLine)) → Option (List ℕ)
+  view_by None work trace = Some (text_for work.command work trace)
+  view_by (Some position) work trace = why_text work.program work.inputs work.limits work.faults position
 
-abbrev pub view_of : Sight → Option (List ℕ)
-view_of sight = view_by sight.position sight.work sight.trace
+  abbrev pub view_of : Sight → Option (List ℕ)
+  view_of sight = view_by sight.position sight.work sight.trace
 
 -- the position that is asked for, where there is nothing to be shown of it
 abbrev pub absent_by : (view : Option (List ℕ)) → (position : Option ℕ) → Option ℕ
 absent_by None position = position
 absent_by (Some text) position = None
 
-abbrev pub absent_of : Sight → Option ℕ
-absent_of sight = absent_by (view_of sight) sight.position
-
 -- what is written, and the status of that
-abbrev pub sight_text : Sight → List ℕ
-sight_text sight = unwrap_or (view_of sight) []
+abbrev pub sight_text : Layout → Sight → List ℕ
+sight_text layout sight = unwrap_or (view_of layout sight) []
 
 abbrev pub status_by : (absent : Option ℕ) → ℕ
 status_by None = 0
 status_by (Some position) = 5
 
-abbrev pub sight_status : Sight → ℕ
-sight_status sight = status_by (absent_of sight)
+abbrev pub sight_status : Layout → Sight → ℕ
+sight_status layout sight = status_by (absent_by (view_of layout sight) sight.position)

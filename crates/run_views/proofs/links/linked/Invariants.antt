@@ -1,6 +1,6 @@
 use Rattle.std.proofs.Common.{◌≡◌, drop, map}
 use Rattle.run_views.specs.meaning.Links.{linked}
-use Rattle.run_views.specs.inner.Seen.{party_in}
+use Rattle.run_views.specs.Seen.{party_in}
 use Rattle.run_views.proofs.links.linked.Given as goal
 
 -- the link is to one of those that are left

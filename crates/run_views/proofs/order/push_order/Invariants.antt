@@ -1,6 +1,6 @@
 use Rattle.std.proofs.Common.{◌≡◌, ◌++◌, drop, map}
 use Rattle.run_views.specs.meaning.Order.{order_lines}
-use Rattle.run_views.specs.inner.Seen.{seen}
+use Rattle.run_views.specs.Seen.{seen}
 use Rattle.run_views.proofs.order.push_order.Given as goal
 
 -- the lines so far, and those of the subthreads that are left, are all

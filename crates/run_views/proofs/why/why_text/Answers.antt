@@ -5,9 +5,9 @@ use Rattle.task_ast.specs.meaning.Names.{records_of, cells_in}
 use Rattle.lock_checker.specs.Accepted.{program_of}
 use Rattle.one_thread.specs.declared.run.Step.{Step}
 use Rattle.run_views.specs.meaning.Why.{why_lines}
-use Rattle.run_views.specs.inner.Seen.{seen, party_in}
+use Rattle.run_views.specs.Seen.{seen, party_in}
+use Rattle.run_views.proofs.Endings.{few-steps}
 use Rattle.run_views.proofs.Linking.{cells-counted, why-shown, why-past}
-use Rattle.run_views.proofs.Pictures.{few-steps}
 use Rattle.run_views.proofs.why.why_text.Goals as goal
 
 pub returns-then-position-steps : goal.returns-then-position-steps

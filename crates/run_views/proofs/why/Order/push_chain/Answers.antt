@@ -2,7 +2,7 @@ use Rattle.std.proofs.Common.{ℕ, List, ◌++◌, map, sym, arith}
 use Rattle.std.proofs.lemmas.Result.{on_ok_weaker}
 use Rattle.run_views.specs.meaning.Links.{Party}
 use Rattle.run_views.specs.meaning.Why.{chain}
-use Rattle.run_views.specs.inner.Seen.{party_in}
+use Rattle.run_views.specs.Seen.{party_in}
 use Rattle.run_views.proofs.Linking.{chain-kept, chain-ends}
 use Rattle.run_views.proofs.why.Order.push_chain.Goals as goal
 

@@ -1,6 +1,6 @@
 use Rattle.std.proofs.Common.{◌≡◌, ◌≤◌, ◌-◌, ◌++◌, map}
 use Rattle.run_views.specs.meaning.Why.{chain}
-use Rattle.run_views.specs.inner.Seen.{party_in}
+use Rattle.run_views.specs.Seen.{party_in}
 use Rattle.run_views.proofs.why.Order.push_chain.Given as goal
 
 -- the lines so far, and those from the position that was come to, are all

@@ -1,6 +1,6 @@
 use Rattle.std.proofs.Common.{◌≡◌, ◌+◌, ◌++◌, drop, map}
 use Rattle.run_views.specs.meaning.Why.{restart_texts}
-use Rattle.run_views.specs.inner.Seen.{party_in}
+use Rattle.run_views.specs.Seen.{party_in}
 use Rattle.run_views.proofs.why.Order.push_restarts.Given as goal
 
 -- the restarts so far, and those that are left, are all

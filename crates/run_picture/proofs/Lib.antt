@@ -1,0 +1,4 @@
+pub mod Coming
+pub mod Folds
+pub mod Pictures
+pub mod Takes

@@ -1,0 +1,3 @@
+-- What describes parts of the crate alone.
+pub mod Drawn
+pub mod Tellings
