@@ -7,10 +7,10 @@ ghost use Rattle.lock_checker.specs.Accepted.{program_of};
 ghost use Rattle.run_views.specs.meaning.Why.{record_text, link_line, struck_line, link_text, chain, why_line, restart_text, restart_texts, redone_line, why_lines, why_text};
 ghost use Rattle.run_views.specs.Seen.{seen, party_in};
 
-use crate::restarted::{attempt_of, redoes};
 use crate::links::{Link, link_of, linked};
 use crate::names::{push_between, push_labelled, push_number, push_record};
 use crate::order::push_step;
+use crate::restarted::{attempt_of, redoes};
 use gp_audit::restarts_of;
 use gp_base::{Faults, Inputs, Limits, Pos, Restart, Seq, Text, ThreadNo};
 use lock_checker::Checked;

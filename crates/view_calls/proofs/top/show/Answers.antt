@@ -18,8 +18,7 @@ returns-in-Ok g c =
     let shown = c.in-Ok.ensures in
     let out = change_of g.O.Sink.written g.O.Sink.faults c.args.out.now c.show_text.new.out in
     let err = change_of g.E.Sink.written g.E.Sink.faults c.args.err.now c.show_text.new.err in
-    let position = c.args.viewing.now.position in
-    (
+    let position = c.args.viewing.now.position in (
       shown.0,
       subst (λ (view : Option (List ℕ)). let due = status_by (absent_by view position) in
           RunEndsOf GprsView (unwrap_or view []) (absent_line due position) due out err c.show_text.result) shown.1 c.show_text.ensures,
@@ -29,8 +28,7 @@ pub returns-in-Err : goal.returns-in-Err
 returns-in-Err g c =
     let sight = sight_of c.args.viewing.now in
     let out = change_of g.O.Sink.written g.O.Sink.faults c.args.out.now c.args.out.now in
-    let err = change_of g.E.Sink.written g.E.Sink.faults c.args.err.now c.stop_by.new.err in
-    (
+    let err = change_of g.E.Sink.written g.E.Sink.faults c.args.err.now c.stop_by.new.err in (
       no_layout,
       stopped_ends (view_of no_layout sight) sight.position out err OutOfMemory c.stop_by.result
           (prefix_none (g.O.Sink.written c.args.out.now) (sight_text no_layout sight)) (λ is. absurd (cc is)) c.stop_by.ensures,
