@@ -2,9 +2,9 @@
 # growth.sh [ROW ..]: how the time of a run grows with its batch. Each row (those of `named` below, or all) is a batch at a quarter of its size, at half and at its
 # size, and has a line for each of the calls that run it: the milliseconds of a run at the three sizes, by user and system time less that of an empty batch, the best
 # of five measurements (RUNS is another number of them); the last over the one before (2 is linear); how the work itself grows there, and by how much the time
-# grows more. A measurement has so many runs that it takes 50 milliseconds at the half. The work is what runs, subthreads and those that are redone, by the
-# counts that the call prints; of `held` it is the locks that all subthreads hold, and of `copies` the cells. What the calls of a row print has to be the same, but
-# for what they tell of restarts. The program has to be built; GPRS names another one.
+# grows more. A measurement has so many runs that it takes 50 milliseconds at the half. The work is what runs: the attempts, by the trace of the call, or, where it
+# has none, subthreads and those that are redone; of `held` it is the locks that all subthreads hold, of `copies` the cells. What the calls of a row print has to
+# be the same, but for what they tell of restarts. The program has to be built; GPRS names another one.
 set -eu
 cd "$(dirname "$(readlink -f "${BASH_SOURCE[0]}")")"
 
@@ -194,11 +194,14 @@ least() {
     echo "$best"
 }
 
-# The work of the row at a part of its size, by what the last run there printed.
+# The work of a row at a part of its size by a call: the attempts that its trace posts, where there is one, and else what the last run there printed.
 work_of() {
-    case "$1" in
-        held) echo $((size * size / (part * part))) ;;
-        copies) echo $((size / part)) ;;
+    local name="$1"
+    shift
+    case "$name $1" in
+        held*) echo $((size * size / (part * part))) ;;
+        copies*) echo $((size / part)) ;;
+        *run) "$gprs" "$@" batch.gp --subthreads 200000 --trace 2>&1 >/dev/null | awk '$1 == "post" { count++ } END { print count }' ;;
         *) awk '$1 == "subthreads" || $1 == "redone" { sum += $2 } END { print sum }' out ;;
     esac
 }
@@ -215,7 +218,7 @@ grown() {
     for part in 4 2 1; do
         cd "$part"
         took+=($(($(least "$count" "$@" batch.gp --subthreads 200000) - empty)))
-        work+=("$(work_of "$name")")
+        work+=("$(work_of "$name" "$@")")
         cd ..
     done
     awk -v quarter="${took[0]}" -v half="${took[1]}" -v whole="${took[2]}" -v before="${work[1]}" -v after="${work[2]}" -v count="$count" 'BEGIN {
