@@ -117,10 +117,16 @@ fn ends_so<R: Threads + Sync + AllocGlobal>(
     status: u8,
     told: &[u8],
 ) -> Result<(), Fail> {
-    match run(rt, program, b"", cash)? {
-        Err(Unfinished::Ended(ended)) if ended.status == status && ended.told.as_slice() == told =>
-            Ok(()),
-        _ => Err(Fail::from("the run ended otherwise")),
+    let Err(unfinished) = run(rt, program, b"", cash)? else {
+        return Err(Fail::from("the run finished"));
+    };
+    let Unfinished::Ended(ended) = unfinished else {
+        return Err(Fail::from("the run came to nothing"));
+    };
+    if ended.status == status && ended.told.as_slice() == told {
+        Ok(())
+    } else {
+        Err(Fail::from("the run ended otherwise"))
     }
 }
 
