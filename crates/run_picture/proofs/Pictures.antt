@@ -29,7 +29,7 @@ use Rattle.run_picture.specs.declared.columns.View.{View}
 use Rattle.run_picture.specs.declared.elements.Drawing.{Drawing}
 use Rattle.run_picture.specs.declared.elements.Element.{Element}
 use Rattle.run_picture.specs.declared.frame.Part.{Part}
-use Rattle.run_picture.specs.meaning.Elements.{Layout, opening, drawn}
+use Rattle.run_picture.specs.meaning.Elements.{Layout, opening, elements_text}
 use Rattle.run_picture.specs.meaning.Attempts.{Tells, Values, told_of, title, attempt_box, ended_by, boxes}
 use Rattle.run_picture.specs.meaning.Picture.{plain, summary, has_column, hidden, fold_text, fronts, column, columns, notes, elements, picture, values_before, timeline_text}
 use Rattle.run_picture.specs.inner.Drawn.{place_in, parts_in, shows_in, values_in, shown_elements, values_from}
@@ -107,14 +107,14 @@ module _ (heads : List Head) (tells : Tells) (restarts : List Restart) where
       → picture layout heads tells known (map seen (map shown run)) ending restarts ≡ picture layout heads tells values run ending restarts
   picture-seen layout known values run ending same =
       ap₂ (λ count own. opening layout.width layout.height
-      ++ drawn layout.place 0
+      ++ elements_text layout.place 0
       (plain (codes "run") (summary count (length restarts) ending) ∷ map (λ part. plain part.0 part.1) layout.frame ++ own ++ notes 1 restarts)
       ++ codes "</svg>\n") (length-seen run) (columns-seen layout.shows known values true 0 run same)
 
 -- a picture that was put together piece by piece
 pub picture-made : (view : View) (frame : List Part) (ending : End) (drawing : Drawing) (height : ℕ) (first second third text : List ℕ)
     → drawing.elements ≡ shown_elements view (parts_in frame) ending → first ≡ opening view.bands.now.width height
-    → second ≡ first ++ drawn (place_in drawing) 0 drawing.elements → third ≡ second ++ codes "</svg>\n" → text ≡ third
+    → second ≡ first ++ elements_text (place_in drawing) 0 drawing.elements → third ≡ second ++ codes "</svg>\n" → text ≡ third
     → (layout : Layout) × (text ≡ picture layout view.heads.now (found view.tellings.now) (values_in view.known.now) (map seen view.order.now) ending
     view.restarts.now)
 picture-made view frame ending drawing height first second third text shows begun drew closed taken =
@@ -127,9 +127,9 @@ picture-made view frame ending drawing height first second third text shows begu
     (map seen view.order.now)
     ++ notes 1 view.restarts.now in (
       record { width = view.bands.now.width; height = height; frame = parts_in frame; shows = shows_in view.bands.now; place = place },
-      taken ∙ closed ∙ ap (λ l. l ++ end) (drew ∙ ap (λ l. l ++ drawn place 0 drawing.elements) begun)
-          ∙ ap (λ those. start ++ drawn place 0 those ++ end) shows
-          ∙ ap (λ count. start ++ drawn place 0 (of count) ++ end) (sym (length-map view.order.now seen)),
+      taken ∙ closed ∙ ap (λ l. l ++ end) (drew ∙ ap (λ l. l ++ elements_text place 0 drawing.elements) begun)
+          ∙ ap (λ those. start ++ elements_text place 0 those ++ end) shows
+          ∙ ap (λ count. start ++ elements_text place 0 (of count) ++ end) (sym (length-map view.order.now seen)),
     )
 
 -- what is read of a list, and what is left of it after that

@@ -1,6 +1,6 @@
 // The elements of a picture and their places, and how they are written.
 ghost use Rattle.std.specs.Prelude.{◌≡◌, [], ◌∷◌, ◌++◌, codes, OnOk, IfOk};
-ghost use Rattle.run_picture.specs.meaning.Elements.{colours, opening, title_text, rectangle, words_at, element_text, drawn};
+ghost use Rattle.run_picture.specs.meaning.Elements.{colours, opening, title_text, rectangle, words_at, element_text, elements_text};
 ghost use Rattle.run_picture.specs.meaning.Picture.{plain};
 ghost use Rattle.run_picture.specs.inner.Drawn.{nowhere, place_in};
 
@@ -163,7 +163,7 @@ fn push_element(text: &mut Vec<u8>, place: Place, element: &Element) -> Result<(
 
 /// Appends the elements of a picture at their places.
 pub fn push_drawing(text: &mut Vec<u8>, drawing: &Drawing) -> Result<(), AllocError>
-    ensures { OnOk result (text.new.items ≡ text.old.items ++ drawn (place_in drawing.now) 0 drawing.now.elements) }
+    ensures { OnOk result (text.new.items ≡ text.old.items ++ elements_text (place_in drawing.now) 0 drawing.now.elements) }
 {
     for (number, element) in drawing.elements.as_slice().iter().enumerate() {
         push_element(text, drawing.place_of(number), element)?;

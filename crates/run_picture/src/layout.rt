@@ -53,6 +53,14 @@ fn past(edge: u64, count: u64, size: u64) -> u64 {
     edge.saturating_add(count.saturating_mul(size))
 }
 
+/// The place of one more mark beside one at this place: the same line, and the next number.
+pub fn beside(place: Place) -> Place {
+    Place {
+        across: place.across.saturating_add(18),
+        ..place
+    }
+}
+
 impl Band {
     // The height of a row.
     fn row_height(&self) -> u64 {

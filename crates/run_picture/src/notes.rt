@@ -2,8 +2,8 @@
 ghost use Rattle.std.specs.Prelude.{◌≡◌, ◌≤◌, ◌++◌, ◌∷◌, [], length, codes, decimal, OnOk, IfOk};
 ghost use Rattle.run_picture.specs.meaning.Picture.{plain, note, fronts, notes};
 
-use crate::elements::{Drawing, Element};
-use crate::layout::Bands;
+use crate::elements::{Drawing, Element, Place};
+use crate::layout::{Bands, beside};
 use gp_base::{Restart, Seq, Text};
 use run_views::{push_between, push_labelled, push_number};
 use std::alloc::{AllocError, Global};
@@ -58,12 +58,11 @@ fn front(alloc: Global, number: u64, restart: &Restart) -> Result<Element, Alloc
     })
 }
 
-// Puts the mark of the front of a restart of this number after a position.
+// Puts the mark of the front of a restart of this number, at a place.
 fn put_front(
     alloc: Global,
     drawing: &mut Drawing,
-    bands: &Bands,
-    position: usize,
+    place: Place,
     number: u64,
     restart: &Restart,
 ) -> Result<(), AllocError>
@@ -71,7 +70,7 @@ fn put_front(
         ++ record { class = codes "front"; title = note number restart.now; words = decimal number } ∷ []) }
 {
     let element = front(alloc, number, restart)?;
-    drawing.put(element, bands.front_place(position))
+    drawing.put(element, place)
 }
 
 /// Puts the marks of those of the restarts that have their front right after a position, numbered from 1.
@@ -86,9 +85,11 @@ pub fn put_fronts(
     requires few { length restarts.now ≤ 1000 }
     ensures { OnOk result (drawing.new.elements ≡ drawing.old.elements ++ fronts position 1 restarts.now) }
 {
+    let mut place = bands.front_place(position);
     for (at, restart) in restarts.iter().enumerate() {
         if restart.front.0 as usize == position + 1 {
-            put_front(alloc, drawing, bands, position, at as u64 + 1, restart)?;
+            put_front(alloc, drawing, place, at as u64 + 1, restart)?;
+            place = beside(place);
         }
     }
     Ok(())

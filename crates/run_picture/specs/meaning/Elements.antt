@@ -42,6 +42,6 @@ element_text place e =
     codes "<g class='" ++ e.class ++ codes "'>" ++ title_text e.title ++ rectangle place ++ words_at place e.words ++ codes "</g>\n"
 
 -- elements at their places, the first of which has this number
-abbrev pub drawn : (place : (number : ℕ) → Place) → (number : ℕ) → List Element → List ℕ
-drawn place n [] = []
-drawn place n (e ∷ elements) = element_text (place n) e ++ drawn place (suc n) elements
+abbrev pub elements_text : (place : (number : ℕ) → Place) → (number : ℕ) → List Element → List ℕ
+elements_text place n [] = []
+elements_text place n (e ∷ elements) = element_text (place n) e ++ elements_text place (suc n) elements

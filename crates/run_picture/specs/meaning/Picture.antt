@@ -17,7 +17,7 @@ use Rattle.run_views.specs.meaning.Order.{end_line}
 use Rattle.run_picture.specs.declared.elements.Element.{Element}
 use Rattle.run_picture.specs.declared.told.Told.{Told}
 use Rattle.run_picture.specs.declared.told.Told.TheVariants.{Unrun, Untold, Taken, Stale}
-use Rattle.run_picture.specs.meaning.Elements.{Layout, opening, drawn}
+use Rattle.run_picture.specs.meaning.Elements.{Layout, opening, elements_text}
 use Rattle.run_picture.specs.meaning.Attempts.{Tells, Values, told_of, boxes}
 
 -- an element that says nothing more when it is pointed at
@@ -104,7 +104,7 @@ elements layout heads tells values run ending restarts =
 -- the picture of these subthreads, of how their run ends and of its restarts
 abbrev pub picture : Layout → List Head → Tells → (values : (position thread : ℕ) → Values) → List Subthread → End → List Restart → List ℕ
 picture layout heads tells values run ending restarts =
-    opening layout.width layout.height ++ drawn layout.place 0 (elements layout heads tells values run ending restarts) ++ codes "</svg>\n"
+    opening layout.width layout.height ++ elements_text layout.place 0 (elements layout heads tells values run ending restarts) ++ codes "</svg>\n"
 
 -- the control variables of a thread before a position
 abbrev pub values_before : Program → Inputs → Limits → (position thread : ℕ) → Values
