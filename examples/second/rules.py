@@ -30,6 +30,8 @@ class Check:
 
     def __init__(self, program):
         self.names = {}
+        # a record may stand before its lock array
+        self.arrays = {head.name: head for head in reversed(program.heads) if isinstance(head, Locks)}
         self.lock_cells = self.record_cells = 0
         for head in program.heads:
             self.head(head)
@@ -54,8 +56,8 @@ class Check:
         elif isinstance(head, Record):
             self.record_cells += head.size
             place.asks(3, head.size > 0)
-            if place.asks(1, self.is_a(head.locks, "lock")):
-                place.asks(10, self.names[head.locks][1].size == head.size)
+            if place.asks(1, head.locks in self.arrays):
+                place.asks(10, self.arrays[head.locks].size == head.size)
             place.asks(11, self.record_cells <= MOST_CELLS)
             kind = "record"
         elif isinstance(head, Feed):
